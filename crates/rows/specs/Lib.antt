@@ -1,0 +1,4 @@
+pub mod Bags
+pub mod Searches
+pub mod Trays
+pub mod Laws

@@ -1,0 +1,2 @@
+pub mod Bagging
+pub mod Holding

@@ -1,0 +1,4 @@
+pub mod Spaces
+pub mod Answers
+pub mod TraySpaces
+pub mod Laws

@@ -1,0 +1,4 @@
+pub mod Values
+pub mod Tuples
+pub mod Matching
+pub mod Laws
