@@ -7,6 +7,10 @@ use native.Mathlib.Omega.{arith}
 use lib.ListN.{length, take, getD}
 use Rattle.std.specs.declared.option.Option.{Option}
 use Rattle.std.specs.declared.option.Option.the-variants.{Some, None}
+use Rattle.std.specs.declared.result.Result.{Result}
+use Rattle.std.specs.declared.result.Result.the-variants.{Ok, Err}
+use Rattle.std.specs.Options.{Cases}
+use Rattle.std.specs.Results.{isOk, Cases as ByOk}
 use Rattle.std.specs.Orderings.{Decides}
 use Rattle.std.proofs.shelf.Lists.{take-more}
 use Rattle.rows.specs.Bags.{once, many, Same, Gains}
@@ -129,3 +133,19 @@ module _ {X : Type 0} (p q : X → Bool) (weaker : (x : X) → p x ≡ true → 
   pub many-implied : (xs : List X) → many p xs ≤ many q xs
   many-implied [] = omega arith
   many-implied (x ∷ xs) = omega (arith, many-implied xs, once-implied (p x) (q x) (weaker x))
+
+-- what a bag becomes, by the answer of a call that adds or takes out
+module _ {X : Type 0} where
+  pub added-bag : {E : Type 0} (r : Result (Unit {0}) E) (x : X) (xs ys : List X) → ys ≡ cond (isOk r) (xs ++ (x ∷ [])) xs → ByOk r (λ _. Gains x xs ys) (λ _. Same xs ys)
+  added-bag (Ok u) x xs ys e = λ p. ap (many p) e ∙ gains-last x xs p
+  added-bag (Err z) x xs ys e = λ p. ap (many p) e
+
+  pub taken-bag : (p : X → Bool) (o : Option X) (xs ys : List X) → o ≡ found p xs → ys ≡ without p xs → Cases o ((many p xs ≡ 0) × Same xs ys) (λ x. (p x ≡ true) × Gains x ys xs)
+  taken-bag p None xs ys e w = (none-many p xs (sym e), λ q. ap (many q) (w ∙ none-without p xs (sym e)))
+  taken-bag p (Some x) xs ys e w = (found-passes p xs x (sym e), λ q. found-gains p xs x (sym e) q ∙ ap (λ zs. once (q x) + many q zs) (sym w))
+
+  -- a test that nothing passes
+  module _ (p : X → Bool) (fails : (x : X) → p x ≡ false) where
+    pub nothing-found : (xs : List X) → found p xs ≡ None
+    nothing-found [] = refl
+    nothing-found (x ∷ xs) = rw (fails x) (nothing-found xs)

@@ -9,7 +9,7 @@ use Rattle.std.specs.declared.option.Option.{Option}
 use Rattle.std.specs.declared.option.Option.the-variants.{Some, None}
 use Rattle.std.specs.shelf.Lists.{removed}
 use Rattle.std.proofs.shelf.Lists.{drop-more, drop-all}
-use Rattle.rows.specs.Searches.{placeFrom, found, without}
+use Rattle.rows.specs.Searches.{placeFrom, found, without, visited}
 
 -- a variant of Option is not the other
 some-none : {X P : Type 0} (x : X) → Some x ≡ None → P
@@ -84,3 +84,21 @@ module _ {X : Type 0} (p : X → Bool) where
   pub missed : (n : ℕ) (xs : List X) → placeFrom n p xs ≡ None → Missed xs
   missed n [] e = record { none = refl; kept = refl }
   missed n (x ∷ xs) e = missed-step n x xs (p x) refl (missed (n + 1) xs) e
+
+  visited-here-step : (n i : ℕ) (x : X) (xs : List X) (b : Bool) → (placeFrom (n + 1) p xs ≡ Some i → n + 1 + visited p xs ≡ i + 1) → cond b (Some n) (placeFrom (n + 1) p xs) ≡ Some i → n + (1 + cond b 0 (visited p xs)) ≡ i + 1
+  visited-here-step n i x xs true more e = let same : n ≡ i = cc in omega arith
+  visited-here-step n i x xs false more e = omega (arith, more e)
+
+  -- a search that finds something has looked at all up to it
+  pub visited-here : (n i : ℕ) (xs : List X) → placeFrom n p xs ≡ Some i → n + visited p xs ≡ i + 1
+  visited-here n i [] e = some-none i (sym e)
+  visited-here n i (x ∷ xs) e = visited-here-step n i x xs (p x) (visited-here (n + 1) i xs) e
+
+  visited-all-step : (n : ℕ) (x : X) (xs : List X) (b : Bool) → (placeFrom (n + 1) p xs ≡ None → visited p xs ≡ length xs) → cond b (Some n) (placeFrom (n + 1) p xs) ≡ None → 1 + cond b 0 (visited p xs) ≡ suc (length xs)
+  visited-all-step n x xs true more e = some-none n e
+  visited-all-step n x xs false more e = omega (arith, more e)
+
+  -- a search that finds nothing has looked at all
+  pub visited-all : (n : ℕ) (xs : List X) → placeFrom n p xs ≡ None → visited p xs ≡ length xs
+  visited-all n [] e = refl
+  visited-all n (x ∷ xs) e = visited-all-step n x xs (p x) (visited-all (n + 1) xs) e

@@ -19,3 +19,8 @@ found p (x ∷ xs) = cond (p x) (Some x) (found p xs)
 abbrev pub without : {X : Type 0} → (X → Bool) → List X → List X
 without p [] = []
 without p (x ∷ xs) = cond (p x) xs (x ∷ without p xs)
+
+-- how many are looked at, from the front up to the first that passes, or all
+abbrev pub visited : {X : Type 0} → (X → Bool) → List X → ℕ
+visited p [] = 0
+visited p (x ∷ xs) = 1 + cond (p x) 0 (visited p xs)

@@ -3,7 +3,7 @@ ghost use Prim.Native.Nat.{_<_};
 ghost use lib.ListN.{length};
 ghost use Rattle.std.specs.Options.{Cases};
 ghost use Rattle.rows.specs.Bags.{many};
-ghost use Rattle.rows.specs.Searches.{placeFrom};
+ghost use Rattle.rows.specs.Searches.{placeFrom, visited};
 use crate::row::Row;
 
 /// The place of the first row that answers, or nothing where none does.
@@ -30,4 +30,14 @@ pub fn count<R: Row>(rows: &[R], question: &R::Question) -> usize
         }
     }
     answering
+}
+
+/// How many rows the search looks at: those up to the first that answers, or all where none does.
+pub fn visits<R: Row>(rows: &[R], question: &R::Question) -> usize
+    ensures { λ r. ⌜ r ≡ visited (λ x. hit x (now (question .entry))) (now (rows .entry)) ⌝ }
+{
+    match first(rows, question) {
+        Some(at) => at + 1,
+        None => rows.len(),
+    }
 }

@@ -8,7 +8,7 @@ ghost use lib.ListN.{length, set};
 ghost use Rattle.std.specs.Options.{isSome};
 ghost use Rattle.std.specs.Results.{isOk};
 ghost use Rattle.rows.specs.Bags.{many};
-ghost use Rattle.rows.specs.Searches.{found, without};
+ghost use Rattle.rows.specs.Searches.{found, without, visited};
 ghost use Rattle.rows.specs.Trays.{room, filled, listed, closedUp, afterTake};
 use crate::row::Row;
 use crate::search;
@@ -82,6 +82,13 @@ impl<'a, R: Row, const MOST: usize> Tray<'a, R, MOST> {
         ensures { λ r. ⌜ r ≡ many (λ x. hit x (now (question .entry))) (listed (now (self .entry))) ⌝ }
     {
         search::count(self.in_use(), question)
+    }
+
+    /// How many rows a search for the question looks at.
+    pub fn visits(&self, question: &R::Question) -> usize
+        ensures { λ r. ⌜ r ≡ visited (λ x. hit x (now (question .entry))) (listed (now (self .entry))) ⌝ }
+    {
+        search::visits(self.in_use(), question)
     }
 
     /// Takes out the first row that answers and closes up those behind it, in order.

@@ -1,0 +1,4 @@
+pub mod Letters
+pub mod Carriers
+pub mod Limits
+pub mod Laws
