@@ -1,0 +1,12 @@
+pub mod Writing
+pub mod Trails
+pub mod Chaining
+pub mod Totals
+pub mod Linking
+pub mod Moving
+pub mod Walking
+pub mod Freeing
+pub mod Holding
+pub mod Keeping
+pub mod Spacing
+pub mod Places
