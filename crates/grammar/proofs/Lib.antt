@@ -1,0 +1,3 @@
+pub mod Judge
+pub mod Nest
+pub mod Walk

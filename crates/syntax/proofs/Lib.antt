@@ -1,0 +1,10 @@
+pub mod Complete
+pub mod Converse
+pub mod Exact
+pub mod Finish
+pub mod Loosen
+pub mod Reach
+pub mod Refuse
+pub mod Shape
+pub mod Sound
+pub mod Unique

@@ -1,0 +1,4 @@
+pub mod Grammar
+pub mod Limits
+pub mod Machine
+pub mod Tree
