@@ -1,19 +1,18 @@
 -- Rows that are linked in the order in which they lie, and the chains when all rows are free. Assumes nothing.
 use mathlib.Core.Path.{_≡_, refl, sym, ap, subst, _∙_}
-use mathlib.Core.Bool.{Bool, true, false, cond}
-use mathlib.Core.Logic.{_⊎_, inl, inr}
+use mathlib.Core.Logic.{inl, inr}
 use mathlib.Core.List.{List, [], _∷_, _++_, reverse, reverse-append}
-use Prim.Native.Nat.{ℕ, zero, suc, _+_, _-_, _<_, _≤_, min}
+use Prim.Native.Nat.{ℕ, zero, suc, _+_, _-_, _<_, _≤_}
 use native.Mathlib.Omega.{arith}
 use lib.Dec.{eqb, ltb}
-use lib.ListN.{length, getD, set, replicate, length-set}
+use lib.ListN.{getD, set, replicate, length-set}
 use lib.Seq.{getD-set-same, getD-set-other}
 use Rattle.std.proofs.shelf.Tests.{cases-eq, cases-lt, le-ltb, lt-ltb}
 use Rattle.rows.specs.Bags.{once, many}
 use Rattle.chained.specs.declared.row.ChainRow.{ChainRow}
 use Rattle.chained.specs.declared.ends.Ends.{Ends}
-use Rattle.chained.specs.Links.{nextOf, prevOf, trail, forward, backward, endsOf, rowsOf, roomFor, upto, total, Both-ways}
-use Rattle.chained.specs.Steps.{led, Sound, Fresh}
+use Rattle.chained.specs.Links.{nextOf, prevOf, trail, forward, endsOf, rowsOf, roomFor, total, Both-ways}
+use Rattle.chained.specs.Steps.{led, Fresh}
 use Rattle.chained.proofs.Trails.{times, once-self, once-other, led-here, led-off, trail-kept}
 use Rattle.chained.proofs.Chaining.{times-reverse}
 use Rattle.chained.proofs.Totals.{total-one, total-none, many-upto}

@@ -1,9 +1,8 @@
 -- What the chains hold before and after a put, a take and a clear. Assumes nothing.
-use mathlib.Core.Path.{_≡_, refl, sym, ap, subst, _∙_}
+use mathlib.Core.Path.{_≡_, refl, sym, ap, _∙_}
 use mathlib.Core.Bool.{Bool, true, false, cond}
-use mathlib.Core.Logic.{_⊎_, inl, inr}
-use mathlib.Core.List.{List, [], _∷_, _++_, append-nil}
-use Prim.Native.Nat.{ℕ, zero, suc, _+_, _-_, _<_, _≤_, min}
+use mathlib.Core.List.{List, [], _∷_, _++_}
+use Prim.Native.Nat.{ℕ, _+_, _-_, _<_, _≤_, min}
 use native.Mathlib.Omega.{arith}
 use lib.Dec.{eqb, ltb}
 use lib.ListN.{length}
@@ -12,7 +11,7 @@ use Rattle.std.specs.declared.option.Option.the-variants.{Some, None}
 use Rattle.std.specs.shelf.Maps.{nth}
 use Rattle.std.specs.Options.{Cases}
 use Rattle.std.specs.Vec.{listOf}
-use Rattle.std.proofs.shelf.Tests.{cases-eq, eq-eqb, ne-eqb, lt-ltb, le-ltb, cond-true, cond-false}
+use Rattle.std.proofs.shelf.Tests.{eq-eqb, ne-eqb, lt-ltb, le-ltb, cond-true, cond-false}
 use Rattle.tuples.specs.declared.tuple.Tuple.{Tuple}
 use Rattle.tuples.specs.declared.template.Template.{Template}
 use Rattle.tuples.specs.Matching.{matches}
@@ -22,7 +21,7 @@ use Rattle.chained.specs.declared.row.ChainRow.{ChainRow}
 use Rattle.chained.specs.declared.ends.Ends.{Ends}
 use Rattle.chained.specs.declared.chains.Chains.{Chains}
 use Rattle.chained.specs.Chains.{memory}
-use Rattle.chained.specs.Links.{nextOf, tupleIn, tupleOf, tuplesAt, forward, endsOf, rowsOf, roomFor, upto, total, Both-ways}
+use Rattle.chained.specs.Links.{nextOf, tupleIn, tupleOf, tuplesAt, endsOf, rowsOf, roomFor, upto, total}
 use Rattle.chained.specs.Steps.{matchesAt, Sound, Fresh, Links-kept, Moved}
 use Rattle.chained.proofs.Trails.{times, in-apart, trail-length}
 use Rattle.chained.proofs.Totals.{total-le, total-one, total-same, total-none, total-more, many-upto}
@@ -138,7 +137,7 @@ fresh-count rows ends f = sym (total-same 32 (λ _. 0) (λ c. endsOf ends c .man
 pub fresh-held : (rows : List ChainRow) (ends : List Ends) → Fresh rows ends → (c : ℕ) → c < 32 → heldAt rows ends c ≡ []
 fresh-held rows ends f c l = ap (tuplesAt rows) (trail-end _ (endsOf ends c .many) (endsOf ends c .first) (omega (arith, f .empty c l)))
 
--- a search in a chain finds a row in use
+-- a search in a chain finds a linked row
 module _ (rows : List ChainRow) (ends : List Ends) (sound : Sound rows ends) (c : ℕ) (low : c < 33) (p : ℕ → Bool) where
   pub found-within : (o : Option ℕ) → o ≡ found p (rowsOf rows ends c) → Cases o (Unit {0}) (λ i. i < roomFor rows)
   found-within None e = tt

@@ -1,12 +1,12 @@
 -- The 33 chains of a memory, as a row moves from one to the end of another. Assumes nothing.
 use mathlib.Core.Path.{_≡_, refl, sym, ap, _∙_}
-use mathlib.Core.Bool.{Bool, true, false, cond}
-use mathlib.Core.Logic.{_⊎_, inl, inr}
-use mathlib.Core.List.{List, [], _∷_, _++_, reverse}
-use Prim.Native.Nat.{ℕ, zero, suc, _+_, _-_, _<_, _≤_, min}
+use mathlib.Core.Bool.{Bool, true, false}
+use mathlib.Core.Logic.{inl, inr}
+use mathlib.Core.List.{List, [], _∷_, _++_}
+use Prim.Native.Nat.{ℕ, _+_, _-_, _<_, _≤_, min}
 use native.Mathlib.Omega.{arith}
 use lib.Dec.{eqb, ltb}
-use lib.ListN.{length, getD, set, length-set}
+use lib.ListN.{length, set, length-set}
 use lib.Seq.{getD-set-same, getD-set-other}
 use Rattle.std.proofs.shelf.Tests.{cases-eq, cases-lt, le-ltb}
 use Rattle.rows.specs.Bags.{once, many}
@@ -14,9 +14,9 @@ use Rattle.rows.specs.Searches.{without}
 use Rattle.rows.proofs.Counting.{many-append}
 use Rattle.chained.specs.declared.row.ChainRow.{ChainRow}
 use Rattle.chained.specs.declared.ends.Ends.{Ends}
-use Rattle.chained.specs.Links.{forward, endsOf, rowsOf, roomFor, upto, total, Both-ways, Beyond-kept}
-use Rattle.chained.specs.Steps.{Single, Inside, Sound, Links-kept, Tuples-kept, Moved}
-use Rattle.chained.proofs.Trails.{times, once-self, in-apart, trail-length}
+use Rattle.chained.specs.Links.{forward, endsOf, rowsOf, roomFor, upto, total, Both-ways, Beyond-kept, Tuples-kept}
+use Rattle.chained.specs.Steps.{Single, Inside, Sound, Links-kept, Moved}
+use Rattle.chained.proofs.Trails.{times, once-self, in-apart}
 use Rattle.chained.proofs.Chaining.{times-without}
 use Rattle.chained.proofs.Totals.{total-le, total-two, total-moved, many-upto}
 use Rattle.chained.proofs.Linking.{some-rows, forward-kept, both-kept}

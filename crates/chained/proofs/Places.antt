@@ -1,15 +1,14 @@
 -- A number that stands in lists at most once in all stands at one place of one list. Assumes nothing.
 use mathlib.Core.Path.{_≡_, refl, sym, ap, _∙_}
-use mathlib.Core.Bool.{Bool, true, false, cond}
-use mathlib.Core.Logic.{_⊎_, inl, inr}
+use mathlib.Core.Logic.{inl, inr}
 use mathlib.Core.List.{List, [], _∷_}
-use Prim.Native.Nat.{ℕ, zero, suc, _+_, _<_, _≤_}
+use Prim.Native.Nat.{ℕ, zero, suc, _<_}
 use native.Mathlib.Omega.{arith}
 use lib.ListN.{length, getD}
 use Rattle.std.proofs.shelf.Tests.{cases-eq, cases-order}
 use Rattle.chained.specs.declared.row.ChainRow.{ChainRow}
 use Rattle.chained.specs.declared.ends.Ends.{Ends}
-use Rattle.chained.specs.Links.{rowsOf, endsOf}
+use Rattle.chained.specs.Links.{rowsOf}
 use Rattle.chained.specs.Steps.{Sound}
 use Rattle.chained.proofs.Trails.{times, once-self}
 use Rattle.chained.proofs.Moving.{chain-single, chains-apart}

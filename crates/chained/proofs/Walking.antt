@@ -4,10 +4,7 @@ use mathlib.Core.Bool.{Bool, true, false, cond}
 use mathlib.Core.List.{List, [], _∷_}
 use Prim.Native.Nat.{ℕ, zero, suc, _+_, _-_, _<_, _≤_}
 use native.Mathlib.Omega.{arith}
-use lib.Dec.{eqb}
-use lib.ListN.{length}
-use Rattle.std.specs.declared.option.Option.{Option}
-use Rattle.std.specs.declared.option.Option.the-variants.{Some, None}
+use Rattle.std.specs.declared.option.Option.the-variants.{Some}
 use Rattle.std.specs.shelf.Maps.{nth}
 use Rattle.std.proofs.shelf.Tests.{cond-true, cond-false}
 use Rattle.tuples.specs.declared.template.Template.{Template}
@@ -31,7 +28,7 @@ trail-end f (suc n) i h = absurd (omega arith)
 pub first-there : (f : ℕ → ℕ) (n i : ℕ) → 0 < n → 0 < times i (trail f n i)
 first-there f n i h = let e : times i (trail f n i) ≡ times i (i ∷ trail f (n - 1) (f i)) = ap (times i) (trail-step f n i h) in omega (arith, e, once-self i i refl)
 
--- a walk that is in a chain has come to a row in use
+-- a walk that is in a chain has come to a linked row
 pub walk-inside : (rows : List ChainRow) (e : Ends) (n i : ℕ) → Inside rows e → 0 < n → ((k : ℕ) → times k (trail (nextOf rows) n i) ≤ times k (forward rows e)) → i < roomFor rows
 walk-inside rows e n i inside some part = inside i (omega (arith, first-there (nextOf rows) n i some, part i))
 

@@ -1,8 +1,8 @@
--- A chained space keeps a limit of at most 4096, and copies lie at the 32 sites alone. Assumes nothing.
+-- A chained space keeps its limit, and holds copies at the 32 sites only. Assumes nothing.
 use mathlib.Core.Path.{_≡_, refl, ap}
 use mathlib.Core.Bool.{Bool, true, false, cond}
 use mathlib.Core.List.{List, [], _∷_, map}
-use Prim.Native.Nat.{ℕ, zero, suc, _+_, _<_, _≤_}
+use Prim.Native.Nat.{ℕ, zero, suc, _<_, _≤_}
 use native.Mathlib.Omega.{arith}
 use denote.Ref.{now}
 use lib.Dec.{leb, ltb}

@@ -8,15 +8,19 @@ use Rattle.tuples.specs.declared.tuple.Tuple.{Tuple}
 use Rattle.spaces.specs.Spaces.{Located, at}
 use Rattle.chained.specs.declared.row.ChainRow.{ChainRow}
 use Rattle.chained.specs.declared.chains.Chains.{Chains}
-use Rattle.chained.specs.Links.{tuplesAt, rowsOf, roomFor, upto}
+use Rattle.chained.specs.Links.{tuplesAt, endsOf, rowsOf, roomFor, upto}
 
 -- the memory
 abbrev pub memory : Chains → List ChainRow
 memory s = now (s .rows)
 
--- how many rows of the memory are in use, free or not
+-- how many rows of the memory are linked
 abbrev pub rowsIn : Chains → ℕ
 rowsIn s = roomFor (memory s)
+
+-- the first row of the chain of free rows
+abbrev pub firstFree : Chains → ℕ
+firstFree s = endsOf (s .ends) 32 .first
 
 -- the tuples in the rows of chain c, in order
 abbrev pub chainIn : Chains → ℕ → List Tuple

@@ -1,5 +1,6 @@
 -- Rows that lead to one another, and the chains that they make. Assumes nothing.
 use mathlib.Core.Path.{_≡_}
+use mathlib.Core.Bool.{cond}
 use mathlib.Core.List.{List, [], _∷_, _++_, reverse}
 use Prim.Native.Nat.{ℕ, zero, suc, _+_, _≤_, min}
 use lib.Dec.{eqb, ltb}
@@ -72,21 +73,29 @@ unfoldable pub total : ℕ → (ℕ → ℕ) → ℕ
 total zero f = 0
 total (suc n) f = total n f + f n
 
--- how many rows of a memory the chains use
+-- how many rows of a memory are linked: all, but at most 4096
 abbrev pub roomFor : List ChainRow → ℕ
 roomFor rows = min (length rows) 4096
 
--- each of the rows in use lies at one place of one of the 33 chains, and no other row lies in any
+-- each linked row lies at one place of one of the 33 chains, and no other row lies in any
 abbrev pub Each-once : List ChainRow → List Ends → Type 0
 Each-once rows ends = (k : ℕ) → many (eqb k) (upto 33 (rowsOf rows ends)) ≡ once (ltb k (roomFor rows))
 
--- the chains have as many rows as are in use
+-- the chains have as many rows as are linked
 abbrev pub All-counted : List ChainRow → List Ends → Type 0
 All-counted rows ends = total 33 (λ c. endsOf ends c .many) ≡ roomFor rows
 
 -- read from its last row back, a chain gives the same rows in reverse
 abbrev pub Both-ways : List ChainRow → Ends → Type 0
 Both-ways rows e = backward rows e ≡ reverse (forward rows e)
+
+-- two memories hold the same tuples
+abbrev pub Tuples-kept : List ChainRow → List ChainRow → Type 0
+Tuples-kept old new = (i : ℕ) → tupleOf new i ≡ tupleOf old i
+
+-- two memories hold the same tuples, but that row `at` of the new one holds t
+abbrev pub Tuple-stored : List ChainRow → List ChainRow → ℕ → Tuple → Type 0
+Tuple-stored old new at t = (i : ℕ) → tupleOf new i ≡ cond (eqb i at) (Some t) (tupleOf old i)
 
 -- two memories agree in every row from row 4096 on
 abbrev pub Beyond-kept : List ChainRow → List ChainRow → Type 0

@@ -14,7 +14,7 @@ use Rattle.rows.specs.Bags.{many}
 use Rattle.rows.specs.Searches.{without}
 use Rattle.chained.specs.declared.row.ChainRow.{ChainRow}
 use Rattle.chained.specs.declared.ends.Ends.{Ends}
-use Rattle.chained.specs.Links.{nextOf, prevOf, tupleOf, forward, endsOf, rowsOf, roomFor, Each-once, All-counted, Both-ways, Beyond-kept}
+use Rattle.chained.specs.Links.{nextOf, prevOf, tupleOf, forward, endsOf, rowsOf, roomFor, Each-once, All-counted, Both-ways, Tuples-kept, Beyond-kept}
 
 -- f, but that i leads to j
 abbrev pub led : (ℕ → ℕ) → ℕ → ℕ → ℕ → ℕ
@@ -33,7 +33,7 @@ matchesAt rows m i = matchesIn m (tupleOf rows i)
 abbrev pub Single : List ChainRow → Ends → Type 0
 Single rows e = (k : ℕ) → many (eqb k) (forward rows e) ≤ 1
 
--- a chain has rows in use only
+-- a chain has linked rows only
 abbrev pub Inside : List ChainRow → Ends → Type 0
 Inside rows e = (k : ℕ) → 0 < many (eqb k) (forward rows e) → k < roomFor rows
 
@@ -44,7 +44,7 @@ pub record Sound (rows : List ChainRow) (ends : List Ends) : Type 0 where
   pub all : All-counted rows ends
   pub both : (c : ℕ) → c < 33 → Both-ways rows (endsOf ends c)
 
--- the 33 chains of a memory are in order, and all rows in use lie in the last of them
+-- the 33 chains of a memory are in order, and all linked rows lie in the last of them
 pub record Fresh (rows : List ChainRow) (ends : List Ends) : Type 0 where
   pub sound : Sound rows ends
   pub empty : (c : ℕ) → c < 32 → endsOf ends c .many ≡ 0
@@ -52,10 +52,6 @@ pub record Fresh (rows : List ChainRow) (ends : List Ends) : Type 0 where
 -- two memories agree in the links of row i
 abbrev pub Links-kept : List ChainRow → List ChainRow → ℕ → Type 0
 Links-kept old new i = (nextOf new i ≡ nextOf old i) × (prevOf new i ≡ prevOf old i)
-
--- two memories hold the same tuples
-abbrev pub Tuples-kept : List ChainRow → List ChainRow → Type 0
-Tuples-kept old new = (i : ℕ) → tupleOf new i ≡ tupleOf old i
 
 -- row `at` has gone out of chain `from` and to the end of chain `to`
 pub record Moved (old : List ChainRow) (oldEnds : List Ends) (new : List ChainRow) (newEnds : List Ends) (from at to : ℕ) : Type 0 where

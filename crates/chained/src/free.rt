@@ -1,13 +1,13 @@
 ghost use mathlib.Core.Path.{_≡_};
 ghost use Prim.Native.Nat.{ℕ, _+_, _-_, _<_};
-ghost use Rattle.chained.specs.Links.{nextOf, prevOf, roomFor, Beyond-kept};
-ghost use Rattle.chained.specs.Steps.{Fresh, Tuples-kept};
+ghost use Rattle.chained.specs.Links.{nextOf, prevOf, roomFor, Beyond-kept, Tuples-kept};
+ghost use Rattle.chained.specs.Steps.{Fresh};
 use crate::ends::Ends;
 use crate::links::lead_back_to;
 use crate::links::lead_to;
 use crate::row::ChainRow;
 
-/// Links all rows in use into one chain, in the order in which they lie.
+/// Links the first `many` rows into one chain, in the order in which they lie.
 fn link_all(rows: &mut [ChainRow], many: u16)
     requires { ⌜ many ≡ roomFor (now rows) ⌝ }
     ensures nexts { λ _. ⌜ ((i : ℕ) → i < many → nextOf (now (rows .exit)) i ≡ i + 1) ⌝ }
@@ -21,7 +21,7 @@ fn link_all(rows: &mut [ChainRow], many: u16)
     }
 }
 
-/// Puts all rows in use into the chain of free rows; answers the ends of the 33 chains.
+/// Links all rows, at most 4,096, into the chain of free rows; answers the ends of the 33 chains.
 pub(crate) fn freed(rows: &mut [ChainRow]) -> [Ends; 33]
     ensures fresh { λ r. ⌜ Fresh (now (rows .exit)) r ⌝ }
     ensures tuples { λ _. ⌜ Tuples-kept (now (rows .entry)) (now (rows .exit)) ⌝ }

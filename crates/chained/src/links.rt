@@ -3,11 +3,10 @@ ghost use mathlib.Core.Bool.{cond};
 ghost use mathlib.Core.List.{_++_, _∷_, []};
 ghost use Prim.Native.Nat.{ℕ, _+_, _<_};
 ghost use lib.Dec.{eqb};
-ghost use Rattle.std.specs.declared.option.Option.the-variants.{Some};
 ghost use Rattle.rows.specs.Bags.{many};
 ghost use Rattle.rows.specs.Searches.{found, without, visited};
-ghost use Rattle.chained.specs.Links.{nextOf, prevOf, tupleOf, forward, rowsOf, roomFor, Both-ways, Beyond-kept};
-ghost use Rattle.chained.specs.Steps.{led, matchesAt, Single, Inside, Sound, Links-kept, Tuples-kept, Moved};
+ghost use Rattle.chained.specs.Links.{nextOf, prevOf, forward, rowsOf, roomFor, Both-ways, Beyond-kept, Tuples-kept, Tuple-stored};
+ghost use Rattle.chained.specs.Steps.{led, matchesAt, Single, Inside, Sound, Links-kept, Moved};
 use crate::ends::Ends;
 use crate::row::ChainRow;
 use tuples::template::Template;
@@ -39,7 +38,7 @@ pub(crate) fn lead_back_to(rows: &mut [ChainRow], at: u16, prev: u16)
 pub(crate) fn store(rows: &mut [ChainRow], at: u16, tuple: Tuple)
     requires { ⌜ at < roomFor (now rows) ⌝ }
     ensures links { λ _. ⌜ ((i : ℕ) → Links-kept (now (rows .entry)) (now (rows .exit)) i) ⌝ }
-    ensures tuples { λ _. ⌜ ((i : ℕ) → tupleOf (now (rows .exit)) i ≡ cond (eqb i at) (Some tuple) (tupleOf (now (rows .entry)) i)) ⌝ }
+    ensures tuples { λ _. ⌜ Tuple-stored (now (rows .entry)) (now (rows .exit)) at tuple ⌝ }
     ensures beyond { λ _. ⌜ Beyond-kept (now (rows .entry)) (now (rows .exit)) ⌝ }
 {
     rows[at as usize].tuple = tuple;

@@ -11,9 +11,10 @@ ghost use Rattle.rows.specs.Bags.{many, Same, Gains};
 ghost use Rattle.rows.specs.Searches.{found, without, visited};
 ghost use Rattle.spaces.specs.Spaces.{at, hits, copies};
 ghost use Rattle.spaces.specs.Answers.{putAnswer};
-ghost use Rattle.chained.specs.Links.{Beyond-kept};
-ghost use Rattle.chained.specs.ChainedSpaces.{chainsOf, chainOf, memoryOf, heldIn, roomIn};
+ghost use Rattle.chained.specs.Links.{Tuples-kept, Tuple-stored, Beyond-kept};
+ghost use Rattle.chained.specs.Chains.{firstFree};
 ghost use Rattle.chained.specs.Bounds.{chained-bounded};
+ghost use Rattle.chained.specs.ChainedSpaces.{chainsOf, chainOf, memoryOf, heldIn, roomIn};
 use crate::chains::Chains;
 use spaces::space::PutRefusal;
 use spaces::space::Space;
@@ -48,6 +49,7 @@ impl<'c, 'a> ChainedSpace<'c, 'a> {
     }
 }
 
+/// Of the tuples at a site that a template matches, the one that was put first is taken and peeked at.
 pub impl<'c, 'a> Space for ChainedSpace<'c, 'a> as Chained {
     ghost held = { λ s. heldIn s };
 
@@ -63,6 +65,7 @@ pub impl<'c, 'a> Space for ChainedSpace<'c, 'a> as Chained {
         ensures empty { λ _. ⌜ heldIn (now (self .exit)) ≡ [] ⌝ }
         ensures fixed { λ _. ⌜ roomIn (now (self .exit)) ≡ roomIn (now (self .entry)) ⌝ }
         ensures chains { λ _. ⌜ ((c : ℕ) → chainOf (now (self .exit)) c ≡ []) ⌝ }
+        ensures tuples { λ _. ⌜ Tuples-kept (memoryOf (now (self .entry))) (memoryOf (now (self .exit))) ⌝ }
         ensures beyond { λ _. ⌜ Beyond-kept (memoryOf (now (self .entry))) (memoryOf (now (self .exit))) ⌝ }
         ensures lent { λ _. ⌜ name (chainsOf (now (self .exit)) .rows) ≡ name (chainsOf (now (self .entry)) .rows) ⌝ }
     {
@@ -79,6 +82,7 @@ pub impl<'c, 'a> Space for ChainedSpace<'c, 'a> as Chained {
         ensures fixed { λ _. ⌜ roomIn (now (self .exit)) ≡ roomIn (now (self .entry)) ⌝ }
         ensures chain { λ r. ⌜ ByOk r (λ _. chainOf (now (self .exit)) site ≡ chainOf (now (self .entry)) site ++ (tuple ∷ [])) (λ _. chainOf (now (self .exit)) site ≡ chainOf (now (self .entry)) site) ⌝ }
         ensures others { λ _. ⌜ ((c : ℕ) → (c ≡ site → ⊥) → chainOf (now (self .exit)) c ≡ chainOf (now (self .entry)) c) ⌝ }
+        ensures tuples { λ r. ⌜ ByOk r (λ _. Tuple-stored (memoryOf (now (self .entry))) (memoryOf (now (self .exit))) (firstFree (chainsOf (now (self .entry)))) tuple) (λ _. Tuples-kept (memoryOf (now (self .entry))) (memoryOf (now (self .exit)))) ⌝ }
         ensures beyond { λ _. ⌜ Beyond-kept (memoryOf (now (self .entry))) (memoryOf (now (self .exit))) ⌝ }
         ensures lent { λ _. ⌜ name (chainsOf (now (self .exit)) .rows) ≡ name (chainsOf (now (self .entry)) .rows) ⌝ }
     {
@@ -98,6 +102,7 @@ pub impl<'c, 'a> Space for ChainedSpace<'c, 'a> as Chained {
         ensures first { λ r. ⌜ r ≡ found (matches (now (template .entry))) (chainOf (now (self .entry)) site) ⌝ }
         ensures chain { λ _. ⌜ chainOf (now (self .exit)) site ≡ without (matches (now (template .entry))) (chainOf (now (self .entry)) site) ⌝ }
         ensures others { λ _. ⌜ ((c : ℕ) → (c ≡ site → ⊥) → chainOf (now (self .exit)) c ≡ chainOf (now (self .entry)) c) ⌝ }
+        ensures tuples { λ _. ⌜ Tuples-kept (memoryOf (now (self .entry))) (memoryOf (now (self .exit))) ⌝ }
         ensures beyond { λ _. ⌜ Beyond-kept (memoryOf (now (self .entry))) (memoryOf (now (self .exit))) ⌝ }
         ensures lent { λ _. ⌜ name (chainsOf (now (self .exit)) .rows) ≡ name (chainsOf (now (self .entry)) .rows) ⌝ }
     {

@@ -6,12 +6,13 @@ ghost use denote.Ref.{name};
 ghost use lib.Dec.{ltb};
 ghost use lib.ListN.{length};
 ghost use Rattle.std.specs.Options.{Cases};
+ghost use Rattle.std.specs.Orderings.{When};
 ghost use Rattle.tuples.specs.Matching.{matches};
 ghost use Rattle.rows.specs.Bags.{many};
 ghost use Rattle.rows.specs.Searches.{found, without, visited};
-ghost use Rattle.chained.specs.Links.{rowsOf, total, Beyond-kept};
+ghost use Rattle.chained.specs.Links.{rowsOf, total, Tuples-kept, Tuple-stored, Beyond-kept};
 ghost use Rattle.chained.specs.Steps.{matchesAt};
-ghost use Rattle.chained.specs.Chains.{memory, bag, chainIn, rowsIn};
+ghost use Rattle.chained.specs.Chains.{memory, firstFree, bag, chainIn, rowsIn};
 use crate::chains::Chains;
 use crate::free::freed;
 use crate::links::count_matches;
@@ -30,6 +31,7 @@ impl<'a> Chains<'a> {
     pub fn over(rows: &'a mut [ChainRow]) -> Chains<'a>
         ensures empty { λ r. ⌜ bag r ≡ [] ⌝ }
         ensures room { λ r. ⌜ rowsIn r ≡ min (length (now (rows .entry))) 4096 ⌝ }
+        ensures tuples { λ r. ⌜ Tuples-kept (now (rows .entry)) (memory r) ⌝ }
         ensures beyond { λ r. ⌜ Beyond-kept (now (rows .entry)) (memory r) ⌝ }
         ensures lent { λ r. ⌜ name (r .rows) ≡ name (rows .entry) ⌝ }
     {
@@ -59,6 +61,7 @@ impl<'a> Chains<'a> {
     pub(crate) fn clear(&mut self)
         ensures empty { λ _. ⌜ ((c : ℕ) → c < 32 → chainIn (now (self .exit)) c ≡ []) ⌝ }
         ensures fixed { λ _. ⌜ rowsIn (now (self .exit)) ≡ rowsIn (now (self .entry)) ⌝ }
+        ensures tuples { λ _. ⌜ Tuples-kept (memory (now (self .entry))) (memory (now (self .exit))) ⌝ }
         ensures beyond { λ _. ⌜ Beyond-kept (memory (now (self .entry))) (memory (now (self .exit))) ⌝ }
         ensures lent { λ _. ⌜ name (now (self .exit) .rows) ≡ name (now (self .entry) .rows) ⌝ }
     {
@@ -74,6 +77,7 @@ impl<'a> Chains<'a> {
         ensures here { λ r. ⌜ chainIn (now (self .exit)) site ≡ cond r (chainIn (now (self .entry)) site ++ (tuple ∷ [])) (chainIn (now (self .entry)) site) ⌝ }
         ensures rest { λ _. ⌜ ((c : ℕ) → c < 32 → (c ≡ site → ⊥) → chainIn (now (self .exit)) c ≡ chainIn (now (self .entry)) c) ⌝ }
         ensures fixed { λ _. ⌜ rowsIn (now (self .exit)) ≡ rowsIn (now (self .entry)) ⌝ }
+        ensures tuples { λ r. ⌜ When r (Tuple-stored (memory (now (self .entry))) (memory (now (self .exit))) (firstFree (now (self .entry))) tuple) (Tuples-kept (memory (now (self .entry))) (memory (now (self .exit)))) ⌝ }
         ensures beyond { λ _. ⌜ Beyond-kept (memory (now (self .entry))) (memory (now (self .exit))) ⌝ }
         ensures lent { λ _. ⌜ name (now (self .exit) .rows) ≡ name (now (self .entry) .rows) ⌝ }
     {
@@ -95,6 +99,7 @@ impl<'a> Chains<'a> {
         ensures here { λ _. ⌜ chainIn (now (self .exit)) site ≡ without (matches (now (template .entry))) (chainIn (now (self .entry)) site) ⌝ }
         ensures rest { λ _. ⌜ ((c : ℕ) → c < 32 → (c ≡ site → ⊥) → chainIn (now (self .exit)) c ≡ chainIn (now (self .entry)) c) ⌝ }
         ensures fixed { λ _. ⌜ rowsIn (now (self .exit)) ≡ rowsIn (now (self .entry)) ⌝ }
+        ensures tuples { λ _. ⌜ Tuples-kept (memory (now (self .entry))) (memory (now (self .exit))) ⌝ }
         ensures beyond { λ _. ⌜ Beyond-kept (memory (now (self .entry))) (memory (now (self .exit))) ⌝ }
         ensures lent { λ _. ⌜ name (now (self .exit) .rows) ≡ name (now (self .entry) .rows) ⌝ }
     {

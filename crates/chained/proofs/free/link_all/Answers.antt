@@ -1,5 +1,4 @@
 use mathlib.Core.Path.{refl, _∙_}
-use native.Mathlib.Omega.{arith}
 use Rattle.chained.proofs.Freeing.{nexts-more, prevs-more}
 use Rattle.chained.proofs.free.link_all.Needs as need
 

@@ -1,7 +1,6 @@
 use Prim.Native.Nat.{ℕ, _+_, _-_, _<_}
 use mathlib.Core.Path.{_≡_}
-use Rattle.chained.specs.Links.{nextOf, prevOf, Beyond-kept}
-use Rattle.chained.specs.Steps.{Tuples-kept}
+use Rattle.chained.specs.Links.{nextOf, prevOf, Beyond-kept, Tuples-kept}
 use Rattle.chained.proofs.free.link_all.Given as given
 
 abbrev pub Inv-loop-i : given.InvT-loop-i

@@ -1,4 +1,3 @@
-use mathlib.Core.Path.{ap, _∙_}
 use native.Mathlib.Omega.{arith}
 use Rattle.chained.specs.Links.{nextOf, endsOf}
 use Rattle.chained.specs.Chains.{memory}

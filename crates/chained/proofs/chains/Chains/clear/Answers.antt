@@ -12,6 +12,7 @@ pub returns : need.returns
 returns c = record {
   empty = fresh-held (c .freed .last .rows) (c .freed .result) (c .freed .ensures .fresh);
   fixed = ap (λ n. min n 4096) (c .freed .kept .rows);
+  tuples = c .freed .ensures .tuples;
   beyond = c .freed .ensures .beyond;
   lent = refl;
 }

@@ -1,5 +1,4 @@
 use native.Mathlib.Omega.{arith}
-use Rattle.chained.specs.Links.{rowsOf}
 use Rattle.chained.specs.Steps.{matchesAt}
 use Rattle.chained.proofs.Moving.{chain-inside}
 use Rattle.chained.proofs.Keeping.{in-order, found-within}

@@ -13,6 +13,7 @@ pub returns : need.returns
 returns c = record {
   empty = bag-none _ (fresh-held (c .freed-ends .last .rows) (c .freed-ends .result) (c .freed-ends .ensures .fresh));
   room = ap (λ n. min n 4096) (c .freed-ends .kept .rows);
+  tuples = c .freed-ends .ensures .tuples;
   beyond = c .freed-ends .ensures .beyond;
   lent = refl;
 }

@@ -1,4 +1,3 @@
-use mathlib.Core.Path.{refl, sym}
 use native.Mathlib.Omega.{arith}
 use Rattle.std.proofs.shelf.Maps.{nth-getD}
 use Rattle.chained.specs.Links.{rowsOf}

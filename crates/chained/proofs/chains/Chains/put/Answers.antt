@@ -1,5 +1,8 @@
-use mathlib.Core.Path.{refl, sym, ap, _∙_}
+use mathlib.Core.Path.{refl, ap, _∙_}
+use mathlib.Core.Bool.{cond}
 use native.Mathlib.Omega.{arith}
+use lib.Dec.{eqb}
+use Rattle.std.specs.declared.option.Option.the-variants.{Some}
 use Prim.Native.Nat.{_<_, min}
 use Rattle.chained.specs.Links.{endsOf}
 use Rattle.chained.proofs.Keeping.{in-order, full, not-full, first-free, free-within, count-small, put-sound, put-here, put-rest, put-count}
@@ -13,6 +16,7 @@ returns-then-free-eq0 c =
       here = refl;
       rest = λ d l n. refl;
       fixed = refl;
+      tuples = λ i. refl;
       beyond = λ i h. refl;
       lent = refl;
     }
@@ -61,6 +65,7 @@ returns c =
       here = put-here (s .rows .now) (c .transfer .last .rows) (c .store .last .rows) (s .ends) (c .transfer .last .ends) (c .args .site) (endsOf (s .ends) 32 .first) (c .args .tuple) sound (c .pre) refl some (c .transfer .ensures) (stored .links) (stored .tuples) (c .store .kept .rows);
       rest = put-rest (s .rows .now) (c .transfer .last .rows) (c .store .last .rows) (s .ends) (c .transfer .last .ends) (c .args .site) (endsOf (s .ends) 32 .first) (c .args .tuple) sound (c .pre) refl some (c .transfer .ensures) (stored .links) (stored .tuples) (c .store .kept .rows);
       fixed = ap (λ n. min n 4096) (c .store .kept .rows ∙ c .transfer .kept .rows);
+      tuples = λ i. stored .tuples i ∙ ap (λ o. cond (eqb i (endsOf (s .ends) 32 .first)) (Some (c .args .tuple)) o) (c .transfer .ensures .tuples i);
       beyond = λ i h. stored .beyond i h ∙ c .transfer .ensures .beyond i h;
       lent = refl;
     }

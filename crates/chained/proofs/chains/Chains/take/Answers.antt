@@ -1,7 +1,6 @@
-use mathlib.Core.Path.{refl, sym, ap, _∙_}
+use mathlib.Core.Path.{refl, sym, ap}
 use native.Mathlib.Omega.{arith}
-use Prim.Native.Nat.{_<_, min}
-use lib.ListN.{length}
+use Prim.Native.Nat.{min}
 use Rattle.std.proofs.shelf.Maps.{nth-getD}
 use Rattle.rows.proofs.Counting.{none-without}
 use Rattle.chained.specs.Links.{rowsOf}
@@ -14,7 +13,7 @@ pub returns-in-rest : need.returns-in-rest
 returns-in-rest c =
     let s = c .args .self .now in
     let none = none-got (s .rows .now) (rowsOf (s .rows .now) (s .ends) (c .args .site)) (c .args .template .now) (c .in-rest .ensures tt .place) in
-    record { got = none; here = sym (none-without _ _ (sym none)); rest = λ d l n. refl; fixed = refl; beyond = λ i h. refl; lent = refl }
+    record { got = none; here = sym (none-without _ _ (sym none)); rest = λ d l n. refl; fixed = refl; tuples = λ i. refl; beyond = λ i h. refl; lent = refl }
 
 pub transfer-requires : need.transfer-requires
 transfer-requires c κs =
@@ -52,6 +51,7 @@ returns c =
       here = take-here (s .rows .now) (c .transfer .last .rows) (s .ends) (c .transfer .last .ends) (c .args .site) (c .in-Some .at) (c .args .template .now) sound (c .pre) place (c .transfer .ensures);
       rest = take-rest (s .rows .now) (c .transfer .last .rows) (s .ends) (c .transfer .last .ends) (c .args .site) (c .in-Some .at) (c .args .template .now) sound (c .pre) place (c .transfer .ensures);
       fixed = ap (λ n. min n 4096) (c .transfer .kept .rows);
+      tuples = c .transfer .ensures .tuples;
       beyond = c .transfer .ensures .beyond;
       lent = refl;
     }

@@ -9,6 +9,7 @@ returns c =
       empty = bag-none (chainIn (c .clear .last .self)) (done .empty);
       fixed = done .fixed;
       chains = sited-none (chainIn (c .clear .last .self)) (done .empty);
+      tuples = done .tuples;
       beyond = done .beyond;
       lent = done .lent;
     }

@@ -1,5 +1,4 @@
 use mathlib.Core.Path.{sym, ap, _∙_}
-use native.Mathlib.Omega.{arith}
 use Rattle.tuples.specs.Matching.{matches}
 use Rattle.rows.specs.Bags.{many}
 use Rattle.spaces.proofs.Bagging.{nothing-beyond}

@@ -1,4 +1,4 @@
-use mathlib.Core.Path.{refl, sym, ap, _∙_}
+use mathlib.Core.Path.{sym, ap, _∙_}
 use mathlib.Core.List.{_++_, _∷_, []}
 use native.Mathlib.Omega.{arith}
 use Rattle.std.proofs.shelf.Tests.{ltb-true, ltb-false}
@@ -19,6 +19,7 @@ returns-then-put c =
       fixed = done .fixed;
       chain = sited-low g (c .args .site) low ∙ done .here ∙ ap (λ ts. ts ++ (c .args .tuple ∷ [])) (sym (sited-low f (c .args .site) low));
       others = sited-same f g (c .args .site) (done .rest);
+      tuples = done .tuples;
       beyond = done .beyond;
       lent = done .lent;
     }
@@ -35,6 +36,7 @@ returns-else-put c =
       fixed = done .fixed;
       chain = sited-low g (c .args .site) low ∙ done .here ∙ sym (sited-low f (c .args .site) low);
       others = sited-same f g (c .args .site) (done .rest);
+      tuples = done .tuples;
       beyond = done .beyond;
       lent = done .lent;
     }

@@ -17,6 +17,7 @@ returns-then-site-ge-SITES c =
       first = sym (ap (found (matches (c .args .template .now))) none);
       chain = none ∙ sym (ap (without (matches (c .args .template .now))) none);
       others = λ d n. refl;
+      tuples = λ i. refl;
       beyond = λ i h. refl;
       lent = refl;
     }
@@ -33,6 +34,7 @@ returns c =
       first = done .got ∙ sym (ap (found (matches (c .args .template .now))) (sited-low f (c .args .site) low));
       chain = sited-low g (c .args .site) low ∙ done .here ∙ sym (ap (without (matches (c .args .template .now))) (sited-low f (c .args .site) low));
       others = sited-same f g (c .args .site) (done .rest);
+      tuples = done .tuples;
       beyond = done .beyond;
       lent = done .lent;
     }
