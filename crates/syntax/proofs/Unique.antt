@@ -214,7 +214,7 @@ mutual
   one-item (nil a1) (nil a2) r s e = (cc, cc)
   one-item (nil a1) (call w2 fs2) r s e = let z : _≡_ {A = ℕ} (14) (3) = item-tags (nil a1) (call w2 fs2) r s e in absurd (omega arith)
   one-item (nil a1) (act a2 i2) r s e = let z : _≡_ {A = ℕ} (14) (actionTag a2) = item-tags (nil a1) (act a2 i2) r s e in absurd (omega (arith, action-large a2))
-  one-item (nil a1) (group p2) r s e = let z : _≡_ {A = ℕ} (14) (1) = item-tags (nil a1) (group p2) r s e in absurd (omega arith)
+  one-item (nil a1) (group pb) r s e = let z : _≡_ {A = ℕ} (14) (1) = item-tags (nil a1) (group pb) r s e in absurd (omega arith)
   one-item (call w1 fs1) (nil a2) r s e = let z : _≡_ {A = ℕ} (3) (14) = item-tags (call w1 fs1) (nil a2) r s e in absurd (omega arith)
   one-item (call w1 fs1) (call w2 fs2) r s e =
       let w : w1 ≡ w2 = cc in
@@ -222,7 +222,7 @@ mutual
       let h = one-upto fieldText one-field field-tag fs1 fs2 r s t in
       ((λ j. call (w j) (h .0 j)), h .1)
   one-item (call w1 fs1) (act a2 i2) r s e = let z : _≡_ {A = ℕ} (3) (actionTag a2) = item-tags (call w1 fs1) (act a2 i2) r s e in absurd (omega (arith, action-large a2))
-  one-item (call w1 fs1) (group p2) r s e = let z : _≡_ {A = ℕ} (3) (1) = item-tags (call w1 fs1) (group p2) r s e in absurd (omega arith)
+  one-item (call w1 fs1) (group pb) r s e = let z : _≡_ {A = ℕ} (3) (1) = item-tags (call w1 fs1) (group pb) r s e in absurd (omega arith)
   one-item (act a1 i1) (nil a2) r s e = let z : _≡_ {A = ℕ} (actionTag a1) (14) = item-tags (act a1 i1) (nil a2) r s e in absurd (omega (arith, action-large a1))
   one-item (act a1 i1) (call w2 fs2) r s e = let z : _≡_ {A = ℕ} (actionTag a1) (3) = item-tags (act a1 i1) (call w2 fs2) r s e in absurd (omega (arith, action-large a1))
   one-item (act a1 i1) (act a2 i2) r s e =
@@ -230,13 +230,13 @@ mutual
       let t : itemText i1 r ≡ itemText i2 s = (let u = h .1 in cc) in
       let g = one-item i1 i2 r s t in
       ((λ j. act (h .0 j) (g .0 j)), g .1)
-  one-item (act a1 i1) (group p2) r s e = let z : _≡_ {A = ℕ} (actionTag a1) (1) = item-tags (act a1 i1) (group p2) r s e in absurd (omega (arith, action-large a1))
-  one-item (group p1) (nil a2) r s e = let z : _≡_ {A = ℕ} (1) (14) = item-tags (group p1) (nil a2) r s e in absurd (omega arith)
-  one-item (group p1) (call w2 fs2) r s e = let z : _≡_ {A = ℕ} (1) (3) = item-tags (group p1) (call w2 fs2) r s e in absurd (omega arith)
-  one-item (group p1) (act a2 i2) r s e = let z : _≡_ {A = ℕ} (1) (actionTag a2) = item-tags (group p1) (act a2 i2) r s e in absurd (omega (arith, action-large a2))
-  one-item (group p1) (group p2) r s e =
-      let t : procText p1 (mark 41 ∷ r) ≡ procText p2 (mark 41 ∷ s) = cc in
-      let h = one-proc-by p1 p2 (all-items p1) 41 r s t in
+  one-item (act a1 i1) (group pb) r s e = let z : _≡_ {A = ℕ} (actionTag a1) (1) = item-tags (act a1 i1) (group pb) r s e in absurd (omega (arith, action-large a1))
+  one-item (group pa) (nil a2) r s e = let z : _≡_ {A = ℕ} (1) (14) = item-tags (group pa) (nil a2) r s e in absurd (omega arith)
+  one-item (group pa) (call w2 fs2) r s e = let z : _≡_ {A = ℕ} (1) (3) = item-tags (group pa) (call w2 fs2) r s e in absurd (omega arith)
+  one-item (group pa) (act a2 i2) r s e = let z : _≡_ {A = ℕ} (1) (actionTag a2) = item-tags (group pa) (act a2 i2) r s e in absurd (omega (arith, action-large a2))
+  one-item (group pa) (group pb) r s e =
+      let t : procText pa (mark 41 ∷ r) ≡ procText pb (mark 41 ∷ s) = cc in
+      let h = one-proc-by pa pb (all-items pa) 41 r s t in
       (ap group (h .0), h .1)
 
   one-action : (a b : Action) (r s : List Leaf) → actionText a r ≡ actionText b s → (a ≡ b) × (r ≡ s)
@@ -248,7 +248,7 @@ mutual
       ((λ j. out (w j) (h .0 j) (g .0 j)), g .1)
   one-action (out a1 fs1 t1) (inp a2 ps2 t2) r s e = let z : _≡_ {A = ℕ} 15 16 = action-tags (out a1 fs1 t1) (inp a2 ps2 t2) r s e in absurd (omega arith)
   one-action (out a1 fs1 t1) (read a2 ps2 t2) r s e = let z : _≡_ {A = ℕ} 15 17 = action-tags (out a1 fs1 t1) (read a2 ps2 t2) r s e in absurd (omega arith)
-  one-action (out a1 fs1 t1) (eval a2 p2 t2) r s e = let z : _≡_ {A = ℕ} 15 18 = action-tags (out a1 fs1 t1) (eval a2 p2 t2) r s e in absurd (omega arith)
+  one-action (out a1 fs1 t1) (eval a2 pb t2) r s e = let z : _≡_ {A = ℕ} 15 18 = action-tags (out a1 fs1 t1) (eval a2 pb t2) r s e in absurd (omega arith)
   one-action (out a1 fs1 t1) (newloc a2 v2) r s e = let z : _≡_ {A = ℕ} 15 19 = action-tags (out a1 fs1 t1) (newloc a2 v2) r s e in absurd (omega arith)
   one-action (inp a1 ps1 t1) (out a2 fs2 t2) r s e = let z : _≡_ {A = ℕ} 16 15 = action-tags (inp a1 ps1 t1) (out a2 fs2 t2) r s e in absurd (omega arith)
   one-action (inp a1 ps1 t1) (inp a2 ps2 t2) r s e =
@@ -258,7 +258,7 @@ mutual
       let g = one-aimed t1 t2 r s (h .1) in
       ((λ j. inp (w j) (h .0 j) (g .0 j)), g .1)
   one-action (inp a1 ps1 t1) (read a2 ps2 t2) r s e = let z : _≡_ {A = ℕ} 16 17 = action-tags (inp a1 ps1 t1) (read a2 ps2 t2) r s e in absurd (omega arith)
-  one-action (inp a1 ps1 t1) (eval a2 p2 t2) r s e = let z : _≡_ {A = ℕ} 16 18 = action-tags (inp a1 ps1 t1) (eval a2 p2 t2) r s e in absurd (omega arith)
+  one-action (inp a1 ps1 t1) (eval a2 pb t2) r s e = let z : _≡_ {A = ℕ} 16 18 = action-tags (inp a1 ps1 t1) (eval a2 pb t2) r s e in absurd (omega arith)
   one-action (inp a1 ps1 t1) (newloc a2 v2) r s e = let z : _≡_ {A = ℕ} 16 19 = action-tags (inp a1 ps1 t1) (newloc a2 v2) r s e in absurd (omega arith)
   one-action (read a1 ps1 t1) (out a2 fs2 t2) r s e = let z : _≡_ {A = ℕ} 17 15 = action-tags (read a1 ps1 t1) (out a2 fs2 t2) r s e in absurd (omega arith)
   one-action (read a1 ps1 t1) (inp a2 ps2 t2) r s e = let z : _≡_ {A = ℕ} 17 16 = action-tags (read a1 ps1 t1) (inp a2 ps2 t2) r s e in absurd (omega arith)
@@ -268,22 +268,22 @@ mutual
       let h = one-some placeText one-place ps1 ps2 _ _ q in
       let g = one-aimed t1 t2 r s (h .1) in
       ((λ j. read (w j) (h .0 j) (g .0 j)), g .1)
-  one-action (read a1 ps1 t1) (eval a2 p2 t2) r s e = let z : _≡_ {A = ℕ} 17 18 = action-tags (read a1 ps1 t1) (eval a2 p2 t2) r s e in absurd (omega arith)
+  one-action (read a1 ps1 t1) (eval a2 pb t2) r s e = let z : _≡_ {A = ℕ} 17 18 = action-tags (read a1 ps1 t1) (eval a2 pb t2) r s e in absurd (omega arith)
   one-action (read a1 ps1 t1) (newloc a2 v2) r s e = let z : _≡_ {A = ℕ} 17 19 = action-tags (read a1 ps1 t1) (newloc a2 v2) r s e in absurd (omega arith)
-  one-action (eval a1 p1 t1) (out a2 fs2 t2) r s e = let z : _≡_ {A = ℕ} 18 15 = action-tags (eval a1 p1 t1) (out a2 fs2 t2) r s e in absurd (omega arith)
-  one-action (eval a1 p1 t1) (inp a2 ps2 t2) r s e = let z : _≡_ {A = ℕ} 18 16 = action-tags (eval a1 p1 t1) (inp a2 ps2 t2) r s e in absurd (omega arith)
-  one-action (eval a1 p1 t1) (read a2 ps2 t2) r s e = let z : _≡_ {A = ℕ} 18 17 = action-tags (eval a1 p1 t1) (read a2 ps2 t2) r s e in absurd (omega arith)
-  one-action (eval a1 p1 t1) (eval a2 p2 t2) r s e =
+  one-action (eval a1 pa t1) (out a2 fs2 t2) r s e = let z : _≡_ {A = ℕ} 18 15 = action-tags (eval a1 pa t1) (out a2 fs2 t2) r s e in absurd (omega arith)
+  one-action (eval a1 pa t1) (inp a2 ps2 t2) r s e = let z : _≡_ {A = ℕ} 18 16 = action-tags (eval a1 pa t1) (inp a2 ps2 t2) r s e in absurd (omega arith)
+  one-action (eval a1 pa t1) (read a2 ps2 t2) r s e = let z : _≡_ {A = ℕ} 18 17 = action-tags (eval a1 pa t1) (read a2 ps2 t2) r s e in absurd (omega arith)
+  one-action (eval a1 pa t1) (eval a2 pb t2) r s e =
       let w : a1 ≡ a2 = cc in
-      let q : procText p1 (mark 41 ∷ mark 64 ∷ targetText t1 r) ≡ procText p2 (mark 41 ∷ mark 64 ∷ targetText t2 s) = cc in
-      let h = one-proc-by p1 p2 (all-items p1) 41 _ _ q in
+      let q : procText pa (mark 41 ∷ mark 64 ∷ targetText t1 r) ≡ procText pb (mark 41 ∷ mark 64 ∷ targetText t2 s) = cc in
+      let h = one-proc-by pa pb (all-items pa) 41 _ _ q in
       let g = one-aimed t1 t2 r s (h .1) in
       ((λ j. eval (w j) (h .0 j) (g .0 j)), g .1)
-  one-action (eval a1 p1 t1) (newloc a2 v2) r s e = let z : _≡_ {A = ℕ} 18 19 = action-tags (eval a1 p1 t1) (newloc a2 v2) r s e in absurd (omega arith)
+  one-action (eval a1 pa t1) (newloc a2 v2) r s e = let z : _≡_ {A = ℕ} 18 19 = action-tags (eval a1 pa t1) (newloc a2 v2) r s e in absurd (omega arith)
   one-action (newloc a1 v1) (out a2 fs2 t2) r s e = let z : _≡_ {A = ℕ} 19 15 = action-tags (newloc a1 v1) (out a2 fs2 t2) r s e in absurd (omega arith)
   one-action (newloc a1 v1) (inp a2 ps2 t2) r s e = let z : _≡_ {A = ℕ} 19 16 = action-tags (newloc a1 v1) (inp a2 ps2 t2) r s e in absurd (omega arith)
   one-action (newloc a1 v1) (read a2 ps2 t2) r s e = let z : _≡_ {A = ℕ} 19 17 = action-tags (newloc a1 v1) (read a2 ps2 t2) r s e in absurd (omega arith)
-  one-action (newloc a1 v1) (eval a2 p2 t2) r s e = let z : _≡_ {A = ℕ} 19 18 = action-tags (newloc a1 v1) (eval a2 p2 t2) r s e in absurd (omega arith)
+  one-action (newloc a1 v1) (eval a2 pb t2) r s e = let z : _≡_ {A = ℕ} 19 18 = action-tags (newloc a1 v1) (eval a2 pb t2) r s e in absurd (omega arith)
   one-action (newloc a1 v1) (newloc a2 v2) r s e = (cc, cc)
 
   all-items : (p : Proc) → Items p
