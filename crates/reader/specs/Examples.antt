@@ -24,6 +24,7 @@ IsText text n = leaves (from text 0) ≡ netText n (last ∷ [])
 abbrev pub claimText : List ℕ
 claimText = codes "site a{}site b{next=a;}def Claim($d:num)=in($d)@next.nil;put a(7);run b Claim(7);"
 
+-- the tree of that text
 abbrev pub claimTree : Net
 claimTree = record {
   sites = record { start = 0; site = named (codes "a") 5; aliases = [] } ∷ record { start = 8; site = named (codes "b") 13; aliases = record { alias = named (codes "next") 15; site = named (codes "a") 20 } ∷ [] } ∷ [];
@@ -32,6 +33,7 @@ claimTree = record {
   runs = record { start = 66; site = named (codes "b") 70; body = one (call (named (codes "Claim") 72) (Some (number (Some (pos 7)) 78, None))) } ∷ [];
 }
 
+-- the net that it stands for
 abbrev pub claimNet : ReadNet
 claimNet = record {
   sites = record { name = codes "a"; env = Some 0 ∷ replicate 7 None } ∷ record { name = codes "b"; env = Some 1 ∷ Some 0 ∷ replicate 6 None } ∷ [];
@@ -43,6 +45,7 @@ claimNet = record {
   agents = record { site = 1; first = 2 } ∷ [];
 }
 
+-- from the bytes of the text to its net
 pub record Claim-net-read : Type 0 where
   pub text : IsText claimText claimTree
   pub clean : faults claimTree ≡ []

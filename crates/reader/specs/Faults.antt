@@ -14,10 +14,12 @@ use Rattle.syntax.specs.Tree.{Named, Ty, numType, wordType, siteType, Field, nu
 use Rattle.reader.specs.Names.{placeOf, same, gathered, someOf, uptoOf, words, aliases, self, siteNumber, aliasNumber, defNumber}
 use Rattle.reader.specs.Scopes.{Bound, Scope, Slot, look, bound, formalsOf, within, withSite, sameTy}
 
+-- what is wrong with a text: the place of the token, and the number of the refusal
 pub record Fault : Type 0 where
   pub place : ℕ
   pub number : ℕ
 
+-- the fault of a number at a place
 abbrev pub fault : ℕ → ℕ → Fault
 fault n p = record { place = p; number = n }
 
@@ -31,11 +33,13 @@ beyond most places = map (fault 8) (drop most places)
 
 -- declarations: of a site, of an alias in a block, of a definition
 
+-- what a declaration declares
 pub data Declares : Type 0 where
   siteName : Declares
   aliasIn : ℕ → Declares
   defName : Declares
 
+-- a declaration, with the name that it gives
 pub record Declared : Type 0 where
   pub what : Declares
   pub name : Named
@@ -56,10 +60,12 @@ clash defName defName = true
 abbrev pub repeats : List Declared → Declared → Bool
 repeats before d = sameBytes (d .name .text) self || isSome (placeOf (λ e. same (d .name .text) (e .name) && clash (e .what) (d .what)) before)
 
+-- the declarations that repeat, behind some others
 abbrev pub repeated : List Declared → List Declared → List Fault
 repeated before [] = []
 repeated before (d ∷ ds) = unless (not (repeats before d)) 6 (d .name .start) ++ repeated (d ∷ before) ds
 
+-- the declarations of site lines, the first of which has number b
 abbrev pub blocks : ℕ → List SiteLine → List Declared
 blocks b [] = []
 blocks b (l ∷ ls) = record { what = siteName; name = l .site } ∷ (map (λ a. record { what = aliasIn b; name = a .alias }) (l .aliases) ++ blocks (suc b) ls)
@@ -70,12 +76,15 @@ declared n = blocks 0 (n .sites) ++ map (λ d. record { what = defName; name = d
 
 -- fields, targets, places
 
+-- whether some line declares the name as a site
 abbrev pub isSite : Net → List ℕ → Bool
 isSite n w = isSome (siteNumber n w)
 
+-- whether some line declares the name as a site or an alias
 abbrev pub isSiteOrAlias : Net → List ℕ → Bool
 isSiteOrAlias n w = isSite n w || isSome (aliasNumber n w)
 
+-- a name in a process is a site or an alias, and a variable is in scope
 abbrev pub fieldFaults : Net → Scope → Field → List Fault
 fieldFaults n s (number v p) = []
 fieldFaults n s (word w) = []
@@ -89,6 +98,7 @@ openingFaults n (word w) = []
 openingFaults n (name w) = unless (isSite n (w .text)) 5 (w .start)
 openingFaults n (variable w) = fault 5 (w .start) ∷ []
 
+-- a variable that has to be in scope and of type site
 abbrev pub sited : ℕ → Option Slot → List Fault
 sited p None = fault 5 p ∷ []
 sited p (Some v) = unless (sameTy (v .type) siteType) 7 p
@@ -98,6 +108,7 @@ abbrev pub targetFaults : Net → Scope → Target → List Fault
 targetFaults n s (toName w) = unless (isSiteOrAlias n (w .text)) 5 (w .start)
 targetFaults n s (toVariable w) = sited (w .start) (look s (w .text))
 
+-- a field of a template is judged as any field; what a formal binds is judged below
 abbrev pub placeFaults : Net → Scope → Place → List Fault
 placeFaults n s (field f) = fieldFaults n s f
 placeFaults n s (formal v) = []
@@ -110,12 +121,14 @@ boundFaults k before (v ∷ vs) =
 
 -- calls
 
+-- where a field stands
 abbrev pub fieldStart : Field → ℕ
 fieldStart (number v p) = p
 fieldStart (word w) = w .start
 fieldStart (name w) = w .start
 fieldStart (variable w) = w .start
 
+-- the type of a variable, where it is in scope
 abbrev pub typeOfSlot : Option Slot → Option Ty
 typeOfSlot None = None
 typeOfSlot (Some v) = Some (v .type)
@@ -127,6 +140,7 @@ fieldType s (word w) = Some wordType
 fieldType s (name w) = Some siteType
 fieldType s (variable w) = typeOfSlot (look s (w .text))
 
+-- an argument, whose type may be unknown, beside the type of its parameter
 abbrev pub argumentFaults : ℕ → Option Ty → Ty → List Fault
 argumentFaults p None t = []
 argumentFaults p (Some u) t = unless (sameTy u t) 7 p
@@ -138,6 +152,7 @@ argumentsFaults p s [] (v ∷ vs) = fault 7 p ∷ []
 argumentsFaults p s (f ∷ fs) [] = fault 7 p ∷ []
 argumentsFaults p s (f ∷ fs) (v ∷ vs) = argumentFaults (fieldStart f) (fieldType s f) (v .type) ++ argumentsFaults p s fs vs
 
+-- the first definition of a name
 abbrev pub firstDef : List ℕ → List DefLine → Option DefLine
 firstDef w [] = None
 firstDef w (d ∷ ds) = cond (same w (d .def)) (Some d) (firstDef w ds)
@@ -149,9 +164,11 @@ callFaults s w fs (Some d) = argumentsFaults (w .start) s fs (uptoOf (d .params)
 
 -- processes: what an action binds is in scope in what follows it, and nowhere else
 
+-- the variable of a formal or a parameter
 abbrev pub varOf : Typed → Named
 varOf v = v .var
 
+-- the places and the target of an input: neither sees what the places bind
 abbrev pub inputFaults : Net → Scope → List Place → Target → List Fault
 inputFaults n s ps t = gathered (placeFaults n s) ps ++ (boundFaults (length s) [] (map varOf (formalsOf ps)) ++ targetFaults n s t)
 
@@ -201,23 +218,29 @@ abbrev mutual
   actionNodes (eval p q t) = p ∷ procNodes q
   actionNodes (newloc p v) = p ∷ []
 
+-- the places of all nodes of a net
 abbrev pub nodesOf : Net → List ℕ
 nodesOf n = gathered (λ d. procNodes (d .body)) (n .defs) ++ gathered (λ r. procNodes (r .body)) (n .runs)
 
 -- lines
 
+-- the parameters of a definition
 abbrev pub paramsOf : DefLine → List Typed
 paramsOf d = uptoOf (d .params)
 
+-- each alias of a block names a site
 abbrev pub siteFaults : Net → SiteLine → List Fault
 siteFaults n l = gathered (λ a. unless (isSite n (a .site .text)) 5 (a .site .start)) (l .aliases)
 
+-- parameters are bound together, and are in scope in the body
 abbrev pub defFaults : Net → DefLine → List Fault
 defFaults n d = boundFaults 0 [] (map varOf (paramsOf d)) ++ procFaults n (within [] (paramsOf d)) (d .body)
 
+-- an opening tuple lies at a site
 abbrev pub putFaults : Net → PutLine → List Fault
 putFaults n l = unless (isSite n (l .site .text)) 5 (l .site .start) ++ gathered (openingFaults n) (someOf (l .fields))
 
+-- an agent runs at a site, with no variable in scope
 abbrev pub runFaults : Net → RunLine → List Fault
 runFaults n l = unless (isSite n (l .site .text)) 5 (l .site .start) ++ procFaults n [] (l .body)
 

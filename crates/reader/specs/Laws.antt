@@ -17,6 +17,7 @@ pub record Decides-least (fs : List Fault) (f : Fault) : Type 0 where
   pub is : getD fs at f ≡ f
   pub first : (k : ℕ) → k < length fs → before f (getD fs k f) ≡ true
 
+-- of every list of faults the least decides
 abbrev pub Least-decides : Type 0
 Least-decides = (fs : List Fault) → (least fs ≡ None → fs ≡ []) × ((f : Fault) → least fs ≡ Some f → Decides-least fs f)
 

@@ -30,9 +30,11 @@ moreOf zero m = []
 moreOf (suc n) None = []
 moreOf (suc n) (Some am) = am .0 ∷ moreOf n (am .1)
 
+-- the entries of a list of one to four
 abbrev pub someOf : {A : Type 0} → OneToFour A → List A
 someOf am = am .0 ∷ moreOf 3 (am .1)
 
+-- the entries of a list that may be empty
 abbrev pub uptoOf : {A : Type 0} → UpToFour A → List A
 uptoOf None = []
 uptoOf (Some am) = someOf am
@@ -44,12 +46,14 @@ gathered f (x ∷ xs) = f x ++ gathered f xs
 
 -- the words of a text, in its order
 
+-- the word that a field is, if it is one
 abbrev pub fieldWords : Field → List Named
 fieldWords (number v s) = []
 fieldWords (word w) = w ∷ []
 fieldWords (name w) = []
 fieldWords (variable w) = []
 
+-- the word that a place is, if it is one
 abbrev pub placeWords : Place → List Named
 placeWords (field f) = fieldWords f
 placeWords (formal v) = []
@@ -72,6 +76,7 @@ abbrev mutual
   actionWords (eval s p t) = procWords p
   actionWords (newloc s v) = []
 
+-- all words of a text: of definitions, opening tuples and agents
 abbrev pub wordsOf : Net → List Named
 wordsOf n = gathered (λ d. procWords (d .body)) (n .defs) ++ (gathered (λ p. gathered fieldWords (someOf (p .fields))) (n .puts) ++ gathered (λ r. procWords (r .body)) (n .runs))
 

@@ -37,25 +37,29 @@ pub data Node : Type 0 where
   newNode : ℕ → ℕ → Node
 
 -- a site's name, and the site that each alias names there, or none
-pub record Place-of : Type 0 where
+pub record SiteEntry : Type 0 where
   pub name : List ℕ
   pub env : List (Option ℕ)
 
+-- a definition's name, the types of its parameters, and its first node
 pub record Definition : Type 0 where
   pub name : List ℕ
   pub params : List Ty
   pub first : ℕ
 
+-- a tuple that lies at a site at the beginning
 pub record Opening : Type 0 where
   pub site : ℕ
   pub fields : List Term
 
+-- a process that starts at a site, by its first node
 pub record Agent : Type 0 where
   pub site : ℕ
   pub first : ℕ
 
+-- what a text stands for
 pub record ReadNet : Type 0 where
-  pub sites : List Place-of
+  pub sites : List SiteEntry
   pub aliases : List (List ℕ)
   pub words : List (List ℕ)
   pub definitions : List Definition
@@ -67,19 +71,23 @@ pub record ReadNet : Type 0 where
 abbrev pub found : Option ℕ → ℕ
 found o = valueOr o 0
 
+-- a name in a process: a site, or else an alias
 abbrev pub named : Net → List ℕ → Term
 named n w = elim (siteNumber n w) [ Some k ↦ siteNo k | None ↦ aliasNo (found (aliasNumber n w)) ]
 
+-- the slot of a variable; in a text without faults each is in scope
 abbrev pub slotOf : Option Slot → ℕ
 slotOf None = 0
 slotOf (Some v) = v .slot
 
+-- what a field says
 abbrev pub term : Net → Scope → Field → Term
 term n s (number v p) = num (valueOr v (pos 0))
 term n s (word w) = wordNo (found (wordNumber n (w .text)))
 term n s (name w) = named n (w .text)
 term n s (variable w) = slotNo (slotOf (look s (w .text)))
 
+-- what a target says
 abbrev pub target : Net → Scope → Target → Term
 target n s (toName w) = named n (w .text)
 target n s (toVariable w) = slotNo (slotOf (look s (w .text)))
@@ -90,6 +98,7 @@ spots n s k [] = []
 spots n s k (field f ∷ ps) = actual (term n s f) ∷ spots n s k ps
 spots n s k (formal v ∷ ps) = bind (v .type) k ∷ spots n s (suc k) ps
 
+-- the places of a template: its formals have the slots behind those in scope
 abbrev pub spotsOf : Net → Scope → List Place → List Spot
 spotsOf n s ps = spots n s (length s) ps
 
@@ -135,18 +144,22 @@ abbrev mutual
 
 -- a line's process, one line behind the other
 
+-- the definitions, where the nodes of the first begin with number k
 abbrev pub defsFrom : Net → ℕ → List DefLine → List Definition
 defsFrom n k [] = []
 defsFrom n k (d ∷ ds) = record { name = d .def .text; params = map (λ v. v .type) (paramsOf d); first = procFirst k (d .body) } ∷ defsFrom n (k + procSize (d .body)) ds
 
+-- the nodes of the definitions
 abbrev pub defTables : Net → ℕ → List DefLine → List Node
 defTables n k [] = []
 defTables n k (d ∷ ds) = procTable n (within [] (paramsOf d)) k (d .body) ++ defTables n (k + procSize (d .body)) ds
 
+-- the agents, where the nodes of the first begin with number k
 abbrev pub runsFrom : Net → ℕ → List RunLine → List Agent
 runsFrom n k [] = []
 runsFrom n k (r ∷ rs) = record { site = found (siteNumber n (r .site .text)); first = procFirst k (r .body) } ∷ runsFrom n (k + procSize (r .body)) rs
 
+-- the nodes of the agents
 abbrev pub runTables : Net → ℕ → List RunLine → List Node
 runTables n k [] = []
 runTables n k (r ∷ rs) = procTable n [] k (r .body) ++ runTables n (k + procSize (r .body)) rs
@@ -160,7 +173,8 @@ abbrev pub environment : Net → ℕ → List Alias → List (Option ℕ)
 environment n i [] = Some i ∷ replicate 7 None
 environment n i (a ∷ as′) = set (environment n i as′) (found (aliasNumber n (a .alias .text))) (Some (found (siteNumber n (a .site .text))))
 
-abbrev pub sitesFrom : Net → ℕ → List SiteLine → List Place-of
+-- the sites, the first of which has number i
+abbrev pub sitesFrom : Net → ℕ → List SiteLine → List SiteEntry
 sitesFrom n i [] = []
 sitesFrom n i (l ∷ ls) = record { name = l .site .text; env = environment n i (l .aliases) } ∷ sitesFrom n (suc i) ls
 

@@ -21,6 +21,7 @@ pub record Slot : Type 0 where
   pub slot : ℕ
   pub type : Ty
 
+-- the first of two that is there
 abbrev pub orElse : {A : Type 0} → Option A → Option A → Option A
 orElse (Some x) o = Some x
 orElse None o = o
@@ -30,9 +31,11 @@ abbrev pub lookFrom : ℕ → Scope → List ℕ → Option Slot
 lookFrom k [] w = None
 lookFrom k (b ∷ bs) w = orElse (lookFrom (suc k) bs w) (cond (sameBytes (b .name) w) (Some (record { slot = k; type = b .type })) None)
 
+-- the variable that a name means: the innermost of that name
 abbrev pub look : Scope → List ℕ → Option Slot
 look s w = lookFrom 0 s w
 
+-- a formal or a parameter, as it is bound
 abbrev pub bound : Typed → Bound
 bound v = record { name = v .var .text; type = v .type }
 

@@ -16,6 +16,7 @@ pub record Located : Type 0 where
   pub site : ℕ
   pub tuple : Tuple
 
+-- a tuple at a site
 abbrev pub at : ℕ → Tuple → Located
 at s t = record { site = s; tuple = t }
 
