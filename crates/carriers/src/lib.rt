@@ -1,3 +1,5 @@
+#![tactic(auto)]
+
 //! Letters between sites: what every carrier promises, the carrier that keeps them in a tray and the one that keeps them in a ring.
 
 pub mod carrier;

@@ -1,3 +1,5 @@
+#![tactic(auto)]
+
 //! Offices contend for claims on sheets, through whatever space they are given.
 
 use anyhow::anyhow;

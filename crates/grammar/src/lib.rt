@@ -1,3 +1,5 @@
+#![tactic(auto)]
+
 // The first round of the reader: whether a text is one of the grammar.
 mod entries;
 mod net;

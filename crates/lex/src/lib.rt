@@ -1,3 +1,5 @@
+#![tactic(auto)]
+
 // The tokeniser: it cuts a text into tokens, one at each call.
 mod bytes;
 mod cut;

@@ -1,3 +1,5 @@
+#![tactic(auto)]
+
 //! What a text stands for: the faults of its names, types and tables, and the net that is read where there are none.
 
 pub mod laws;

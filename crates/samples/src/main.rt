@@ -1,3 +1,5 @@
+#![tactic(auto)]
+
 // Checks each line of the input as a text of its own, and prints the answer's number and place.
 use std::io;
 

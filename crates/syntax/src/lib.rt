@@ -1,3 +1,5 @@
+#![tactic(auto)]
+
 // The grammar's trees, its machine and the theorems about them, with the terms that code and
 // definitions share.
 mod stands;

@@ -1,3 +1,5 @@
+#![tactic(auto)]
+
 //! The values that agents exchange: words, sites, fields, tuples and templates, and matching.
 
 pub mod field;
