@@ -8,8 +8,8 @@ use Rattle.tuples.specs.declared.place.Place.TheVariants.{Actual}
 use Rattle.tuples.specs.declared.tuple.Tuple.{Tuple}
 use Rattle.tuples.specs.Values.{same_place}
 use Rattle.tuples.specs.Tuples.{fields_of, same_all}
-use Rattle.tuples.proofs.Sameness.{site-told, same_place-decides}
-use Rattle.tuples.proofs.Padding.{tuple_told, template_told, same_all-decides}
+use Rattle.tuples.specs.Sameness.{site-told, same_place-decides}
+use Rattle.tuples.specs.Padding.{tuple_told, template_told, same_all-decides}
 use Rattle.rows.specs.Bags.{Same}
 use Rattle.rows.proofs.Counting.{same-from-copies}
 use Rattle.carriers.specs.declared.thread_row.ThreadRow.{ThreadRow}

@@ -6,7 +6,7 @@ use Rattle.tuples.specs.declared.tuple.Tuple.{Tuple}
 use Rattle.tuples.specs.declared.template.Template.{Template}
 use Rattle.tuples.specs.Tuples.{same_tuple}
 use Rattle.tuples.specs.Matching.{matches}
-use Rattle.tuples.proofs.Padding.{same_tuple-decides}
+use Rattle.tuples.specs.Padding.{same_tuple-decides}
 use Rattle.rows.specs.Bags.{once, many, Same, Gains}
 use Rattle.rows.proofs.Counting.{many_implied, same-from-copies}
 use Rattle.spaces.specs.declared.space.PutRefusal.{PutRefusal}

@@ -1,3 +1,1 @@
-pub mod Sameness
-pub mod Padding
 pub mod Places

@@ -10,7 +10,7 @@ use Rattle.tuples.specs.declared.template.Template.{Template}
 use Rattle.tuples.specs.Values.{type_of}
 use Rattle.tuples.specs.Tuples.{fields_of, places_of}
 use Rattle.tuples.specs.Matching.{accepts, accepts_all, matches, Accepts, Matches}
-use Rattle.tuples.proofs.Sameness.{same_field-decides, same_type-decides}
+use Rattle.tuples.specs.Sameness.{same_field-decides, same_type-decides}
 
 and_false : (b : Bool) → (b && false) ≡ false
 and_false true = refl

@@ -1,7 +1,6 @@
 ghost use Rattle.std.specs.Prelude.{◌≡◌, Decides};
 ghost use Rattle.tuples.specs.Values.{same_field, type_of};
-ghost use Rattle.std.specs.Cmp.Rules.{comparing};
-ghost use Rattle.std.proofs.Common.{rules};
+ghost use Rattle.tuples.specs.Sameness.{field_equivalence};
 
 use crate::site::Site;
 use crate::word::Word;
@@ -57,11 +56,14 @@ impl Field {
 
 /// Two fields are equal if they agree in type and value.
 impl PartialEq for Field {
-    ghost equals = { λ x y r. Decides r (x ≡ y) };
+    ghost eq = { same_field };
 
-    ghost laws = { Prim.search (comparing, rules) };
+    ghost laws = { field_equivalence };
 
-    fn eq(&self, other: &Field) -> bool {
+    fn eq(&self, other: &Field) -> bool
+        ensures same { result ≡ same_field self.now other.now }
+        ensures decides { Decides result (self.now ≡ other.now) }
+    {
         self.same(*other)
     }
 }

@@ -1,8 +1,7 @@
 ghost use Rattle.std.specs.Prelude.{◌≡◌, Decides};
 ghost use Rattle.tuples.specs.Values.{same_place};
 ghost use Rattle.tuples.specs.Matching.{accepts};
-ghost use Rattle.std.specs.Cmp.Rules.{comparing};
-ghost use Rattle.std.proofs.Common.{rules};
+ghost use Rattle.tuples.specs.Sameness.{place_equivalence};
 
 use crate::field::{Field, FieldType};
 use std::fmt;
@@ -43,11 +42,14 @@ impl Place {
 
 /// Two places are equal if both are the same field or formals of the same type.
 impl PartialEq for Place {
-    ghost equals = { λ x y r. Decides r (x ≡ y) };
+    ghost eq = { same_place };
 
-    ghost laws = { Prim.search (comparing, rules) };
+    ghost laws = { place_equivalence };
 
-    fn eq(&self, other: &Place) -> bool {
+    fn eq(&self, other: &Place) -> bool
+        ensures same { result ≡ same_place self.now other.now }
+        ensures decides { Decides result (self.now ≡ other.now) }
+    {
         self.same(*other)
     }
 }

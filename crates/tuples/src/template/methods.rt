@@ -1,8 +1,7 @@
 ghost use Rattle.std.specs.Prelude.{◌≡◌, ◌<◌, ◌⊎◌, length, Decides, MatchOption};
-ghost use Rattle.tuples.specs.Tuples.{places_of};
+ghost use Rattle.tuples.specs.Tuples.{same_template, places_of};
 ghost use Rattle.tuples.specs.Matching.{matches};
-ghost use Rattle.std.specs.Cmp.Rules.{comparing};
-ghost use Rattle.std.proofs.Common.{rules, arith};
+ghost use Rattle.tuples.specs.Padding.{template_equivalence};
 
 use crate::field::Field;
 use crate::padded::padded;
@@ -52,11 +51,14 @@ impl Template {
 
 /// Two templates are equal if they have the same places in order.
 impl PartialEq for Template {
-    ghost equals = { λ x y r. Decides r (x ≡ y) };
+    ghost eq = { same_template };
 
-    ghost laws = { first_of (Prim.search (comparing, rules), Prim.grind (arith, Self.row.coded.inj)) };
+    ghost laws = { template_equivalence };
 
-    fn eq(&self, other: &Template) -> bool {
+    fn eq(&self, other: &Template) -> bool
+        ensures same { result ≡ same_template self.now other.now }
+        ensures decides { Decides result (self.now ≡ other.now) }
+    {
         let mine = self.places();
         let theirs = other.places();
         mine == theirs

@@ -1,7 +1,6 @@
 ghost use Rattle.std.specs.Prelude.{◌≡◌, ◌<◌, ◌⊎◌, length, Decides, MatchOption};
-ghost use Rattle.tuples.specs.Tuples.{fields_of};
-ghost use Rattle.std.specs.Cmp.Rules.{comparing};
-ghost use Rattle.std.proofs.Common.{rules, arith};
+ghost use Rattle.tuples.specs.Tuples.{same_tuple, fields_of};
+ghost use Rattle.tuples.specs.Padding.{tuple_equivalence};
 
 use crate::field::Field;
 use crate::padded::padded;
@@ -32,11 +31,14 @@ impl Tuple {
 
 /// Two tuples are equal if they have the same fields in order.
 impl PartialEq for Tuple {
-    ghost equals = { λ x y r. Decides r (x ≡ y) };
+    ghost eq = { same_tuple };
 
-    ghost laws = { first_of (Prim.search (comparing, rules), Prim.grind (arith, Self.row.coded.inj)) };
+    ghost laws = { tuple_equivalence };
 
-    fn eq(&self, other: &Tuple) -> bool {
+    fn eq(&self, other: &Tuple) -> bool
+        ensures same { result ≡ same_tuple self.now other.now }
+        ensures decides { Decides result (self.now ≡ other.now) }
+    {
         let mine = self.fields();
         let theirs = other.fields();
         mine == theirs

@@ -1,12 +1,14 @@
-use Rattle.std.proofs.Common.{sym, ap, ◌∙◌}
-use Rattle.std.proofs.lemmas.Slice.Eq.{slice_eq-Decides}
-use Rattle.std.proofs.lemmas.Bool.Decides.{Decides-like, Decides-eqb}
-use Rattle.tuples.specs.Tuples.{fields_of}
-use Rattle.tuples.proofs.Padding.{tuple_told}
+use Rattle.std.proofs.Common.{◌≡◌, sym, ◌∙◌}
+use Rattle.std.proofs.lemmas.Bool.Decides.{Decides-at}
+use Rattle.tuples.specs.Values.{same_field}
+use Rattle.tuples.specs.Tuples.{same_all, same_tuple}
+use Rattle.tuples.specs.Padding.{pointwise-same_all, same_tuple-decides}
 use Rattle.tuples.proofs.tuple.methods.TuplePartialEq.eq.Goals as goal
 
 pub returns : goal.returns
 returns c =
     let mine = c.fields-mine.ensures in
     let theirs = c.fields-theirs.ensures in
-    Decides-like _ (λ e. tuple_told _ _ (sym mine ∙ e ∙ theirs)) (λ e. mine ∙ ap fields_of e ∙ sym theirs) (slice_eq-Decides Decides-eqb _ _ _ c.eq.ensures)
+    let same : c.eq.result ≡ same_tuple c.args.self.now c.args.other.now =
+        c.eq.ensures ∙ pointwise-same_all same_field _ _ ∙ (λ i. same_all same_field (mine i) (theirs i)) in
+    record { same = same; decides = Decides-at _ _ same (same_tuple-decides c.args.self.now c.args.other.now) }

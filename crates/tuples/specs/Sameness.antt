@@ -1,6 +1,8 @@
 -- The tests of sameness decide equality. Assumes nothing.
-use Rattle.std.proofs.Common.{◌≡◌, ℕ, Bool, true, false, eqb, ℤ, pos, negsuc, Decides, refl, ap, arith}
+use Rattle.std.proofs.Common.{◌≡◌, ℕ, Bool, true, false, eqb, ℤ, pos, negsuc, Decides, refl, sym, ap, ◌∙◌, arith}
 use denote.Struct.Record.{values_one}
+use Rattle.std.specs.Cmp.{IsPartialEquivalence}
+use Rattle.std.proofs.lemmas.Bool.Decides.{Decides-like, same_from_decides}
 use Rattle.std.proofs.lemmas.Bool.{eqb-true, eq-eqb}
 use Rattle.tuples.specs.declared.site.Site.{Site}
 use Rattle.tuples.specs.declared.word.Word.{Word}
@@ -20,6 +22,13 @@ site-told a b e = values_one site-row.struct site-row.the_propositions a b (ap (
 
 pub word-told : (a b : Word) → a.number ≡ b.number → a ≡ b
 word-told a b e = values_one word_Row.struct word_Row.the_propositions a b (ap (λ n. (n, tt)) e)
+
+-- a test that decides equality is symmetric and transitive
+pub equivalence : {X : Type 0} (same : X → X → Bool) → ((a b : X) → Decides (same a b) (a ≡ b)) → IsPartialEquivalence same
+equivalence same tells = record {
+  symm = λ a b. same_from_decides _ _ (tells a b) (Decides-like _ sym sym (tells b a));
+  trans = λ a b c e f. (tells a c).1 ((tells a b).0 e ∙ (tells b c).0 f);
+}
 
 -- two cases that differ are not equal
 apart : {Q : Type 0} → (Q → ◌≡◌ {A = ℕ} 0 1) → Decides false Q
@@ -61,3 +70,9 @@ same_place-decides (Actual a) (Actual b) = let d = same_field-decides a b in (λ
 same_place-decides (Actual a) (Formal b) = apart (λ e. cc)
 same_place-decides (Formal a) (Actual b) = apart (λ e. cc)
 same_place-decides (Formal a) (Formal b) = let d = same_type-decides a b in (λ e. ap Formal (d.0 e), λ e. d.1 (cc))
+
+pub field_equivalence : IsPartialEquivalence same_field
+field_equivalence = equivalence same_field same_field-decides
+
+pub place_equivalence : IsPartialEquivalence same_place
+place_equivalence = equivalence same_place same_place-decides

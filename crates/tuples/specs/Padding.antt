@@ -1,6 +1,7 @@
 -- Four places of which the first few are used and the others are blank: the used ones tell all. Assumes nothing.
-use Rattle.std.proofs.Common.{◌≡◌, ℕ, ◌<◌, ◌≤◌, Bool, true, false, List, [], ◌∷◌, length, get_or, take, pos, Decides, sym, refl, ap, ◌∙◌, inl, inr, arith, length-take}
+use Rattle.std.proofs.Common.{◌≡◌, ℕ, ◌<◌, ◌≤◌, Bool, true, false, ◌&&◌, List, [], ◌∷◌, length, get_or, take, pos, Decides, sym, refl, ap, ◌∙◌, inl, inr, arith, length-take}
 use denote.Struct.Record.{values_one}
+use Rattle.std.specs.Cmp.Lexicographic.{pointwise}
 use Rattle.std.proofs.lemmas.List.{get_or-take, same_lists, get_or_default}
 use Rattle.std.proofs.lemmas.Bool.{cases_lt, false≢true}
 use Rattle.std.proofs.lemmas.Bool.Decides.{Decides-and, Decides-like}
@@ -14,7 +15,8 @@ use Rattle.tuples.specs.contracts.tuple.Tuple as tuple-row
 use Rattle.tuples.specs.contracts.template.Template as template-row
 use Rattle.tuples.specs.Values.{same_field, same_place}
 use Rattle.tuples.specs.Tuples.{fields_of, places_of, same_all, same_tuple, same_template}
-use Rattle.tuples.proofs.Sameness.{same_field-decides, same_place-decides}
+use Rattle.std.specs.Cmp.{IsPartialEquivalence}
+use Rattle.tuples.specs.Sameness.{equivalence, same_field-decides, same_place-decides}
 
 module _ {X : Type 0} (blank : X) where
   pub record Padded (n : ℕ) (xs : List X) : Type 0 where
@@ -75,8 +77,21 @@ module _ {X : Type 0} (same : X → X → Bool) (tells : (x y : X) → Decides (
       let both = Decides-and (same x y) (same_all same xs ys) (tells x y) (same_all-decides xs ys) in
       Decides-like _ (λ e. λ i. e.0 i ∷ e.1 i) (λ e. (cc, cc)) both
 
+-- the library compares lists place by place too
+pub pointwise-same_all : {X : Type 0} (same : X → X → Bool) (xs ys : List X) → pointwise same xs ys ≡ same_all same xs ys
+pointwise-same_all same [] [] = refl
+pointwise-same_all same [] (y ∷ ys) = refl
+pointwise-same_all same (x ∷ xs) [] = refl
+pointwise-same_all same (x ∷ xs) (y ∷ ys) = ap (λ b. same x y && b) (pointwise-same_all same xs ys)
+
 pub same_tuple-decides : (s t : Tuple) → Decides (same_tuple s t) (s ≡ t)
 same_tuple-decides s t = Decides-like _ (tuple_told s t) (ap fields_of) (same_all-decides same_field same_field-decides (fields_of s) (fields_of t))
 
 pub same_template-decides : (m n : Template) → Decides (same_template m n) (m ≡ n)
 same_template-decides m n = Decides-like _ (template_told m n) (ap places_of) (same_all-decides same_place same_place-decides (places_of m) (places_of n))
+
+pub tuple_equivalence : IsPartialEquivalence same_tuple
+tuple_equivalence = equivalence same_tuple same_tuple-decides
+
+pub template_equivalence : IsPartialEquivalence same_template
+template_equivalence = equivalence same_template same_template-decides
