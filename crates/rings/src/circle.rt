@@ -33,7 +33,7 @@ pub(crate) fn seek<R: Row>(
 ) -> Option<usize>
     requires start { start ≤ length rows.now }
     requires within { used ≤ length rows.now }
-    ensures place { result ≡ place_from 0 (λ x. hit x question.now) (take used (turned start rows.now)) }
+    ensures place { result ≡ place_from 0 (λ x. R.hit x question.now) (take used (turned start rows.now)) }
     ensures within { IfSome result (λ i. i < used) }
 {
     let older = used.min(rows.len() - start);

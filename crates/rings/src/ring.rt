@@ -75,9 +75,9 @@ impl<'a, R: Row, const MOST: usize> Ring<'a, R, MOST> {
 
     /// Takes out the oldest row that answers; the others keep their order.
     pub fn take(&mut self, question: &R::Question) -> Option<R>
-        ensures got { result ≡ found (λ x. hit x question.now) (listed self.old) }
-        ensures after { listed self.new ≡ without (λ x. hit x question.now) (listed self.old) }
-        ensures memory { AfterTake (λ x. hit x question.now) self.old self.new.rows.now }
+        ensures got { result ≡ found (λ x. R.hit x question.now) (listed self.old) }
+        ensures after { listed self.new ≡ without (λ x. R.hit x question.now) (listed self.old) }
+        ensures memory { AfterTake (λ x. R.hit x question.now) self.old self.new.rows.now }
         ensures lent { self.new.rows.ghost_name ≡ self.old.rows.ghost_name }
         ensures fixed { room self.new ≡ room self.old }
     {
@@ -95,7 +95,7 @@ impl<'a, R: Row, const MOST: usize> Ring<'a, R, MOST> {
 
     /// How many rows in use are older than the oldest that answers.
     fn seek(&self, question: &R::Question) -> Option<usize>
-        ensures place { result ≡ place_from 0 (λ x. hit x question.now) (listed self.now) }
+        ensures place { result ≡ place_from 0 (λ x. R.hit x question.now) (listed self.now) }
         ensures within { IfSome result (λ i. i < filled self.now) }
     {
         let wide = self.limit();

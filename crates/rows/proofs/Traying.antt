@@ -1,10 +1,9 @@
 -- What a list of rows in use becomes when a row is added, found or taken out. Assumes nothing.
-use Rattle.std.proofs.Common.{◌≡◌, ℕ, ◌+◌, ◌-◌, ◌<◌, ◌≤◌, min, Bool, List, [], ◌∷◌, ◌++◌, length, get_or, take, set, Some, None, sym, refl, ap, ◌∙◌, subst, arith, length-set}
-use Rattle.std.specs.List.{remove}
-use Rattle.std.proofs.lemmas.List.{length-take, length-take-le, take_more_set}
+use Rattle.std.proofs.Common.{◌≡◌, ℕ, ◌+◌, ◌-◌, ◌<◌, min, Bool, List, [], ◌∷◌, ◌++◌, length, get_or, take, set, Some, None, sym, ap, ◌∙◌, arith, length-set}
+use Rattle.std.proofs.lemmas.List.{length-take-le, take_more_set}
 use Rattle.rows.specs.Searches.{place_from, found, without}
 use Rattle.rows.specs.Trays.{closed_up, closed_at, after_take}
-use Rattle.rows.proofs.Searching.{First, first-at, missed}
+use Rattle.rows.proofs.Searching.{first-at, missed}
 use Rattle.rows.proofs.Closing.{length_closed, take_closed}
 
 module _ {X : Type 0} where

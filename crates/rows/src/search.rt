@@ -6,7 +6,7 @@ use crate::row::Row;
 
 /// The place of the first row that answers, or nothing where none does.
 pub fn first<R: Row>(rows: &[R], question: &R::Question) -> Option<usize>
-    ensures place { result ≡ place_from 0 (λ x. hit x question.now) rows.now }
+    ensures place { result ≡ place_from 0 (λ x. R.hit x question.now) rows.now }
     ensures within { IfSome result (λ i. i < length rows.now) }
 {
     for (i, row) in rows.iter().enumerate() {
@@ -19,7 +19,7 @@ pub fn first<R: Row>(rows: &[R], question: &R::Question) -> Option<usize>
 
 /// How many rows answer.
 pub fn count<R: Row>(rows: &[R], question: &R::Question) -> usize
-    ensures { result ≡ many (λ x. hit x question.now) rows.now }
+    ensures { result ≡ many (λ x. R.hit x question.now) rows.now }
 {
     let mut answering = 0;
     for row in rows {
@@ -32,7 +32,7 @@ pub fn count<R: Row>(rows: &[R], question: &R::Question) -> usize
 
 /// How many rows the search looks at: those up to the first that answers, or all where none does.
 pub fn visits<R: Row>(rows: &[R], question: &R::Question) -> usize
-    ensures { result ≡ visited (λ x. hit x question.now) rows.now }
+    ensures { result ≡ visited (λ x. R.hit x question.now) rows.now }
 {
     match first(rows, question) {
         Some(at) => at + 1,

@@ -1,5 +1,5 @@
 -- Four places of which the first few are used and the others are blank: the used ones tell all. Assumes nothing.
-use Rattle.std.proofs.Common.{◌≡◌, ℕ, ◌<◌, ◌≤◌, Bool, true, false, ◌&&◌, List, [], ◌∷◌, length, get_or, take, pos, Decides, sym, refl, ap, ◌∙◌, inl, inr, arith, length-take}
+use Rattle.std.proofs.Common.{◌≡◌, ℕ, ◌<◌, ◌≤◌, Bool, false, ◌&&◌, List, [], ◌∷◌, length, get_or, take, pos, Decides, sym, refl, ap, ◌∙◌, inl, inr, arith, length-take}
 use denote.Struct.Record.{values_one}
 use Rattle.std.specs.Cmp.Lexicographic.{pointwise}
 use Rattle.std.proofs.lemmas.List.{get_or-take, same_lists, get_or_default}

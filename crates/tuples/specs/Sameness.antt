@@ -1,5 +1,5 @@
 -- The tests of sameness decide equality. Assumes nothing.
-use Rattle.std.proofs.Common.{◌≡◌, ℕ, Bool, true, false, eqb, ℤ, pos, negsuc, Decides, refl, sym, ap, ◌∙◌, arith}
+use Rattle.std.proofs.Common.{◌≡◌, ℕ, Bool, true, false, ℤ, pos, negsuc, Decides, refl, sym, ap, ◌∙◌, arith}
 use denote.Struct.Record.{values_one}
 use Rattle.std.specs.Cmp.{IsPartialEquivalence}
 use Rattle.std.proofs.lemmas.Bool.Decides.{Decides-like, same_from_decides}

@@ -60,7 +60,7 @@ impl<'a, R: Row, const MOST: usize> Tray<'a, R, MOST> {
 
     /// The first row that answers, or nothing where none does.
     pub fn peek(&self, question: &R::Question) -> Option<R>
-        ensures { result ≡ found (λ x. hit x question.now) (listed self.now) }
+        ensures { result ≡ found (λ x. R.hit x question.now) (listed self.now) }
     {
         let rows = self.in_use();
         match search::first(rows, question) {
@@ -71,23 +71,23 @@ impl<'a, R: Row, const MOST: usize> Tray<'a, R, MOST> {
 
     /// How many rows answer.
     pub fn count(&self, question: &R::Question) -> usize
-        ensures { result ≡ many (λ x. hit x question.now) (listed self.now) }
+        ensures { result ≡ many (λ x. R.hit x question.now) (listed self.now) }
     {
         search::count(self.in_use(), question)
     }
 
     /// How many rows a search for the question looks at.
     pub fn visits(&self, question: &R::Question) -> usize
-        ensures { result ≡ visited (λ x. hit x question.now) (listed self.now) }
+        ensures { result ≡ visited (λ x. R.hit x question.now) (listed self.now) }
     {
         search::visits(self.in_use(), question)
     }
 
     /// Takes out the first row that answers and closes up those behind it, in order.
     pub fn take(&mut self, question: &R::Question) -> Option<R>
-        ensures got { result ≡ found (λ x. hit x question.now) (listed self.old) }
-        ensures after { listed self.new ≡ without (λ x. hit x question.now) (listed self.old) }
-        ensures memory { self.new.rows.now ≡ after_take (λ x. hit x question.now) (filled self.old) self.old.rows.now }
+        ensures got { result ≡ found (λ x. R.hit x question.now) (listed self.old) }
+        ensures after { listed self.new ≡ without (λ x. R.hit x question.now) (listed self.old) }
+        ensures memory { self.new.rows.now ≡ after_take (λ x. R.hit x question.now) (filled self.old) self.old.rows.now }
         ensures lent { self.new.rows.ghost_name ≡ self.old.rows.ghost_name }
         ensures fixed { room self.new ≡ room self.old }
     {

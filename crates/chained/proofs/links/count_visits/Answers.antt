@@ -3,11 +3,11 @@ use Rattle.std.proofs.lemmas.Option.{slice_get_read}
 use Rattle.chained.proofs.Walking.{walk_inside, walk_visits, walk_fewer}
 use Rattle.chained.proofs.links.count_visits.Goals as goal
 
-pub overflow-cast-row : goal.overflow-cast-row
-overflow-cast-row c = omega (arith, walk_inside c.args.rows.now c.args.ends c.loop-left.left c.loop-left.at c.requires c.loop-left-test.true c.loop-left.invariant.1)
+pub overflow_cast-row : goal.overflow_cast-row
+overflow_cast-row c = omega (arith, walk_inside c.args.rows.now c.args.ends c.loop-left.left c.loop-left.at c.requires c.loop-left-test.true c.loop-left.invariant.1)
 
-pub offset-bounds-rows-at : goal.offset-bounds-rows-at
-offset-bounds-rows-at c = omega (arith, walk_inside c.args.rows.now c.args.ends c.loop-left.left c.loop-left.at c.requires c.loop-left-test.true c.loop-left.invariant.1)
+pub offset_bounds-rows-at : goal.offset_bounds-rows-at
+offset_bounds-rows-at c = omega (arith, walk_inside c.args.rows.now c.args.ends c.loop-left.left c.loop-left.at c.requires c.loop-left-test.true c.loop-left.invariant.1)
 
 pub bounds-rows-at : goal.bounds-rows-at
 bounds-rows-at c = omega (arith, walk_inside c.args.rows.now c.args.ends c.loop-left.left c.loop-left.at c.requires c.loop-left-test.true c.loop-left.invariant.1)

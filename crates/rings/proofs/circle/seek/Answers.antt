@@ -25,7 +25,7 @@ returns-in-Some-first g c =
     let hit : g.row.R.Denot → Bool = λ x. g.R.Row.hit x c.args.question.now in
     let cut : (s + older) - s ≡ older = omega arith in
     let front : (used - older) - 0 ≡ used - older = omega arith in
-    let missed = c.in-default.ensures in
+    let missed = c.in_default.ensures in
     let found = c.in-Some-first.ensures in
     record {
       place = seek_newer hit s used older xs c.requires.start c.requires.within c.min-older.ensures c.in-Some-first.i _ _ (ap (λ n. take n (drop s xs)) cut) (ap (λ n. take n xs) front) missed.place found.place;
@@ -42,6 +42,6 @@ returns-in-None g c =
     let cut : (s + older) - s ≡ older = omega arith in
     let front : (used - older) - 0 ≡ used - older = omega arith in
     record {
-      place = seek_none hit s used older xs c.requires.start c.requires.within c.min-older.ensures _ _ (ap (λ n. take n (drop s xs)) cut) (ap (λ n. take n xs) front) c.in-default.ensures.place c.in-None.ensures.place;
+      place = seek_none hit s used older xs c.requires.start c.requires.within c.min-older.ensures _ _ (ap (λ n. take n (drop s xs)) cut) (ap (λ n. take n xs) front) c.in_default.ensures.place c.in-None.ensures.place;
       within = tt;
     }

@@ -5,8 +5,8 @@ use Rattle.rows.proofs.Counting.{many_le, many_more}
 use Rattle.rows.proofs.search.count.Goals as goal
 use Rattle.rows.proofs.search.count.Goals.{then-answers, else-answers}
 
-pub overflow-add-answering : goal.overflow-add-answering
-overflow-add-answering g c =
+pub overflow_add-answering : goal.overflow_add-answering
+overflow_add-answering g c =
     let few = many_le (λ x. g.R.Row.hit x c.args.question.now) (take c.loop-row.row-index c.args.rows.now) in
     let short = length-take c.loop-row.row-index c.args.rows.now in
     search rules

@@ -2,9 +2,9 @@ use Rattle.std.proofs.Common.{refl}
 use Rattle.carriers.proofs.Mailing.{fetched, fetched_nowhere}
 use Rattle.carriers.proofs.ring_carrier.RingLetter256Carrier.fetch.Goals as goal
 
-pub returns-in-default : goal.returns-in-default
-returns-in-default c =
-    let none = fetched_nowhere c.args.site _ c.in-default.ensures in
+pub returns-in_default : goal.returns-in_default
+returns-in_default c =
+    let none = fetched_nowhere c.args.site _ c.in_default.ensures in
     record { after = none.after; fixed = refl; oldest = none.is_found; order = none.is-out }
 
 pub returns : goal.returns

@@ -2,8 +2,8 @@ use Rattle.std.proofs.Common.{refl}
 use Rattle.carriers.proofs.Mailing.{fetched, fetched_nowhere}
 use Rattle.carriers.proofs.tray_carrier.TrayLetter256Carrier.fetch.Goals as goal
 
-pub returns-in-default : goal.returns-in-default
-returns-in-default c = record { after = (fetched_nowhere c.args.site _ c.in-default.ensures).after; fixed = refl }
+pub returns-in_default : goal.returns-in_default
+returns-in_default c = record { after = (fetched_nowhere c.args.site _ c.in_default.ensures).after; fixed = refl }
 
 pub returns : goal.returns
 returns c =

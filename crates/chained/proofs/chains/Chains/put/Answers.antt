@@ -34,8 +34,8 @@ store-requires c =
     let some : 0 < (ends_of s.ends 32).many = omega (arith, c.if-free-eq0.false) in
     omega (arith, free-within s.rows.now s.ends (in_order s) some, c.transfer.auto.rows)
 
-pub overflow-add-used : goal.overflow-add-used
-overflow-add-used c =
+pub overflow_add-used : goal.overflow_add-used
+overflow_add-used c =
     let s = c.args.self.now in
     omega (arith, s.size, count_small s.rows.now s.ends (in_order s))
 

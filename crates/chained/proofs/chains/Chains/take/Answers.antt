@@ -7,10 +7,10 @@ use Rattle.chained.proofs.Holding.{found_in}
 use Rattle.chained.proofs.Keeping.{in_order, none_got, count_some, take_got, take-here, take_rest, take_count}
 use Rattle.chained.proofs.chains.Chains.take.Goals as goal
 
-pub returns-in-default : goal.returns-in-default
-returns-in-default c =
+pub returns-in_default : goal.returns-in_default
+returns-in_default c =
     let s = c.args.self.now in
-    let none = none_got s.rows.now (rows_of s.rows.now s.ends c.args.site) c.args.template.now c.in-default.ensures.place in
+    let none = none_got s.rows.now (rows_of s.rows.now s.ends c.args.site) c.args.template.now c.in_default.ensures.place in
     record { got = none; here = sym (none_without _ _ (sym none)); rest = λ d l n. refl; fixed = refl; tuples = λ i. refl; beyond = λ i h. refl; lent = refl }
 
 pub transfer-requires : goal.transfer-requires
@@ -24,8 +24,8 @@ transfer-requires c =
       here = found_in (matches_at s.rows.now c.args.template.now) c.in-Some.at (rows_of s.rows.now s.ends c.args.site) (sym c.in-Some.ensures.place);
     }
 
-pub overflow-sub-used : goal.overflow-sub-used
-overflow-sub-used c =
+pub overflow_sub-used : goal.overflow_sub-used
+overflow_sub-used c =
     let s = c.args.self.now in
     let here = found_in (matches_at s.rows.now c.args.template.now) c.in-Some.at (rows_of s.rows.now s.ends c.args.site) (sym c.in-Some.ensures.place) in
     omega (arith, s.size, count_some s.rows.now s.ends (in_order s) c.args.site c.in-Some.at c.requires here)

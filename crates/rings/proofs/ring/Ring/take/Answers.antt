@@ -7,11 +7,11 @@ use Rattle.rings.specs.Rings.{room, start, circle, listed, filled}
 use Rattle.rings.proofs.Ringing.{ringed, ring_taken, Spliced, spliced}
 use Rattle.rings.proofs.ring.Ring.take.Goals as goal
 
-pub returns-in-default : goal.returns-in-default
-returns-in-default g c =
+pub returns-in_default : goal.returns-in_default
+returns-in_default g c =
     let r = c.args.self.now in
     let hit : g.row.R.Denot → Bool = λ x. g.R.Row.hit x c.args.question.now in
-    let place : None ≡ place_from 0 hit (listed r) = c.in-default.ensures.place in
+    let place : None ≡ place_from 0 hit (listed r) = c.in_default.ensures.place in
     let none = missed hit 0 (listed r) (sym place) in
     record {
       got = sym none.none;

@@ -4,8 +4,8 @@ use Rattle.spaces.proofs.Bagging.{nothing_beyond, gains_copies}
 use Rattle.spaces.proofs.Holding.{found_at, none_at}
 use Rattle.spaces.proofs.tray_space.TrayHeld4096Space.peek.Goals as goal
 
-pub returns-in-default : goal.returns-in-default
-returns-in-default c = nothing_beyond c.args.site c.args.template.now _ _ (tray_bounded c.args.self.now) c.in-default.ensures
+pub returns-in_default : goal.returns-in_default
+returns-in_default c = nothing_beyond c.args.site c.args.template.now _ _ (tray_bounded c.args.self.now) c.in_default.ensures
 
 pub returns-in-Some-peek : goal.returns-in-Some-peek
 returns-in-Some-peek c =

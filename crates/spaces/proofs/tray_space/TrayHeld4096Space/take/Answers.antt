@@ -5,9 +5,9 @@ use Rattle.spaces.proofs.Bagging.{nothing_beyond}
 use Rattle.spaces.proofs.Holding.{holds, found_at, none_at, same_rows}
 use Rattle.spaces.proofs.tray_space.TrayHeld4096Space.take.Goals as goal
 
-pub returns-in-default : goal.returns-in-default
-returns-in-default c = record {
-  after = (nothing_beyond c.args.site c.args.template.now _ _ (tray_bounded c.args.self.now) c.in-default.ensures, λ p. refl);
+pub returns-in_default : goal.returns-in_default
+returns-in_default c = record {
+  after = (nothing_beyond c.args.site c.args.template.now _ _ (tray_bounded c.args.self.now) c.in_default.ensures, λ p. refl);
   fixed = refl;
 }
 

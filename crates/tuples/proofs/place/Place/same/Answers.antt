@@ -1,4 +1,4 @@
-use Rattle.std.proofs.Common.{sym, ap, ◌∙◌}
+use Rattle.std.proofs.Common.{sym, ◌∙◌}
 use Rattle.tuples.specs.Values.{same_place}
 use Rattle.tuples.proofs.place.Place.same.Goals as goal
 
