@@ -2,10 +2,10 @@ use Rattle.std.proofs.Common.{min, refl, ap}
 use Rattle.chained.proofs.Keeping.{fresh_count, fresh_held}
 use Rattle.chained.proofs.chains.Chains.clear.Goals as goal
 
-pub invariant-of-self : goal.invariant-of-self
-invariant-of-self c =
+pub invariant_of-self : goal.invariant_of-self
+invariant_of-self c =
     let fresh = c.freed.ensures.fresh in
-    (fresh.sound.count, (fresh.sound.each, (fresh.sound.all, (fresh.sound.both, (fresh_count _ _ fresh, tt)))))
+    record { count = fresh.sound.count; each = fresh.sound.each; all = fresh.sound.all; both = fresh.sound.both; size = fresh_count _ _ fresh }
 
 pub returns : goal.returns
 returns c = record {

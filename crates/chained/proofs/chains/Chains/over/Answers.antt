@@ -3,10 +3,10 @@ use Rattle.chained.proofs.Keeping.{fresh_count, fresh_held}
 use Rattle.chained.proofs.Spacing.{bag_none}
 use Rattle.chained.proofs.chains.Chains.over.Goals as goal
 
-pub invariant-of-result : goal.invariant-of-result
-invariant-of-result c =
+pub invariant_of-result : goal.invariant_of-result
+invariant_of-result c =
     let fresh = c.freed-ends.ensures.fresh in
-    (fresh.sound.count, (fresh.sound.each, (fresh.sound.all, (fresh.sound.both, (fresh_count _ _ fresh, tt)))))
+    record { count = fresh.sound.count; each = fresh.sound.each; all = fresh.sound.all; both = fresh.sound.both; size = fresh_count _ _ fresh }
 
 pub returns : goal.returns
 returns c = record {

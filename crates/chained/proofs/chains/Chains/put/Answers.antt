@@ -39,15 +39,15 @@ overflow_add-used c =
     let s = c.args.self.now in
     omega (arith, s.size, count_small s.rows.now s.ends (in_order s))
 
-pub invariant-of-self : goal.invariant-of-self
-invariant-of-self c =
+pub invariant_of-self : goal.invariant_of-self
+invariant_of-self c =
     let s = c.args.self.now in
     let some : 0 < (ends_of s.ends 32).many = omega (arith, c.if-free-eq0.false) in
     let sound = in_order s in
     let stored = c.store.ensures in
     let after = put_sound s.rows.now c.transfer.new.rows c.store.new.rows s.ends c.transfer.new.ends c.args.site (ends_of s.ends 32).first c.args.tuple sound c.requires refl some c.transfer.ensures stored.links stored.tuples c.store.auto.rows in
     let count = put_count s.rows.now c.transfer.new.rows c.store.new.rows s.ends c.transfer.new.ends c.args.site (ends_of s.ends 32).first c.args.tuple sound c.requires refl some c.transfer.ensures stored.links stored.tuples c.store.auto.rows in
-    (after.count, (after.each, (after.all, (after.both, (omega (arith, s.size, count), tt)))))
+    record { count = after.count; each = after.each; all = after.all; both = after.both; size = omega (arith, s.size, count) }
 
 pub returns : goal.returns
 returns c =

@@ -30,13 +30,13 @@ overflow_sub-used c =
     let here = found_in (matches_at s.rows.now c.args.template.now) c.in-Some.at (rows_of s.rows.now s.ends c.args.site) (sym c.in-Some.ensures.place) in
     omega (arith, s.size, count_some s.rows.now s.ends (in_order s) c.args.site c.in-Some.at c.requires here)
 
-pub invariant-of-self : goal.invariant-of-self
-invariant-of-self c =
+pub invariant_of-self : goal.invariant_of-self
+invariant_of-self c =
     let s = c.args.self.now in
     let sound = in_order s in
     let after = c.transfer.ensures.sound in
     let count = take_count s.rows.now c.transfer.new.rows s.ends c.transfer.new.ends c.args.site c.in-Some.at c.args.template.now sound c.requires c.in-Some.ensures.place c.transfer.ensures in
-    (after.count, (after.each, (after.all, (after.both, (omega (arith, s.size, count), tt)))))
+    record { count = after.count; each = after.each; all = after.all; both = after.both; size = omega (arith, s.size, count) }
 
 pub returns : goal.returns
 returns c =
