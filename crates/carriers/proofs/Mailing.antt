@@ -1,5 +1,5 @@
 -- What the mail gains and loses, by the site that is asked for. Assumes nothing.
-use Rattle.std.proofs.Common.{◌≡◌, ℕ, ◌≤◌, Bool, true, false, eqb, List, Some, None, Option, sym, refl, ap, ◌∙◌, subst, arith, MatchOption}
+use Rattle.std.proofs.Common.{◌≡◌, ℕ, ◌≤◌, true, false, List, None, Option, sym, refl, ap, ◌∙◌, arith, MatchOption}
 use Rattle.std.proofs.lemmas.Bool.{ne_eqb}
 use Rattle.tuples.specs.declared.site.Site.{Site}
 use Rattle.rows.specs.Bags.{many, Same, Gains}

@@ -1,13 +1,12 @@
 -- A letter is its destination, its kind, its row and its places. Assumes nothing.
-use Rattle.std.proofs.Common.{◌≡◌, ℕ, Bool, true, false, ◌&&◌, eqb, List, [], ◌∷◌, map, Decides, sym, refl, ap, ◌∙◌, arith}
+use Rattle.std.proofs.Common.{◌≡◌, ℕ, List, [], ◌∷◌, map, Decides, refl, ap, arith}
 use denote.Struct.Record.{values_one}
 use Rattle.std.proofs.lemmas.Bool.Decides.{Decides-and, Decides-like, Decides-eqb}
 use Rattle.tuples.specs.declared.field.Field.{Field}
-use Rattle.tuples.specs.declared.place.Place.{Place}
 use Rattle.tuples.specs.declared.place.Place.TheVariants.{Actual}
 use Rattle.tuples.specs.declared.tuple.Tuple.{Tuple}
 use Rattle.tuples.specs.Values.{same_place}
-use Rattle.tuples.specs.Tuples.{fields_of, same_all}
+use Rattle.tuples.specs.Tuples.{fields_of}
 use Rattle.tuples.specs.Sameness.{site-told, same_place-decides}
 use Rattle.tuples.specs.Padding.{tuple_told, template_told, same_all-decides}
 use Rattle.rows.specs.Bags.{Same}

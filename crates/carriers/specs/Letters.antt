@@ -1,5 +1,5 @@
 -- What a letter is made of, and when two letters are the same. Assumes nothing.
-use Rattle.std.specs.Prelude.{◌≡◌, ℕ, Bool, ◌&&◌, List, [], map, ◌==◌}
+use Rattle.std.specs.Prelude.{ℕ, Bool, ◌&&◌, List, [], map, ◌==◌}
 use Rattle.tuples.specs.declared.place.Place.{Place}
 use Rattle.tuples.specs.declared.place.Place.TheVariants.{Actual}
 use Rattle.tuples.specs.declared.tuple.Tuple.{Tuple}

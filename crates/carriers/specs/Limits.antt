@@ -1,5 +1,4 @@
 -- A tray and a ring of letters keep a limit of at most 256. Assumes nothing.
-use Rattle.std.specs.Prelude.{◌≤◌, length}
 use Rattle.std.proofs.Common.{arith, length-take}
 use Rattle.rows.specs.declared.tray.Tray.{Tray}
 use Rattle.rows.specs.Trays as tray

@@ -1,7 +1,7 @@
 -- The 33 chains of a memory, as a row moves from one to the end of another. Assumes nothing.
-use Rattle.std.proofs.Common.{◌≡◌, ℕ, ◌+◌, ◌-◌, ◌<◌, ◌≤◌, min, Bool, true, false, eqb, ltb, List, [], ◌∷◌, ◌++◌, length, set, sym, refl, ap, ◌∙◌, inl, inr, arith, length-set, get_or-set_other, get_or-set_same}
+use Rattle.std.proofs.Common.{◌≡◌, ℕ, ◌+◌, ◌<◌, ◌≤◌, min, Bool, true, false, eqb, ltb, List, [], ◌∷◌, ◌++◌, length, set, sym, refl, ap, ◌∙◌, inl, inr, arith, length-set, get_or-set_other, get_or-set_same}
 use Rattle.std.proofs.lemmas.Bool.{cases_eq, cases_lt, le-ltb}
-use Rattle.rows.specs.Bags.{once, many}
+use Rattle.rows.specs.Bags.{once}
 use Rattle.rows.specs.Searches.{without}
 use Rattle.rows.proofs.Counting.{many-append}
 use Rattle.chained.specs.declared.row.ChainRow.{ChainRow}

@@ -12,8 +12,8 @@ pub fn contend<S: Space>(
     site: usize,
     template: &Template,
 ) -> (Option<Tuple>, Option<Tuple>)
-    ensures shares { once (is_some result.0) + once (is_some result.1) ≡ min 2 (many (hits site template.now) (held space.old)) }
-    ensures left { once (is_some result.0) + once (is_some result.1) + many (hits site template.now) (held space.new) ≡ many (hits site template.now) (held space.old) }
+    ensures shares { once (is_some result.0) + once (is_some result.1) ≡ min 2 (many (hits site template.now) (S.held space.old)) }
+    ensures left { once (is_some result.0) + once (is_some result.1) + many (hits site template.now) (S.held space.new) ≡ many (hits site template.now) (S.held space.old) }
 {
     let first = space.take(site, template);
     let second = space.take(site, template);

@@ -1,11 +1,11 @@
 -- What a ring's rows in use become when a row is added, sought or taken out. Assumes nothing.
-use Rattle.std.proofs.Common.{◌≡◌, ℕ, suc, ◌+◌, ◌-◌, ◌<◌, ◌≤◌, min, Bool, true, false, cond, ltb, List, [], ◌∷◌, ◌++◌, length, get_or, take, drop, set, Some, None, Option, sym, refl, ap, ◌∙◌, subst, inl, inr, arith}
+use Rattle.std.proofs.Common.{◌≡◌, ℕ, suc, ◌+◌, ◌-◌, ◌<◌, ◌≤◌, min, Bool, true, false, cond, ltb, List, [], ◌∷◌, ◌++◌, length, get_or, take, drop, set, Some, None, sym, refl, ap, ◌∙◌, inl, inr, arith}
 use lib.Seq.{take-set-lt, take-append-add}
 use Rattle.std.specs.List.{remove}
 use Rattle.std.proofs.lemmas.List.{length-set, length-take, length-take-le, length-drop, length-append, get_or-take, take_all, take-take, take-append-le, take_more_set, take_at, drop_at, drop-take, append-nil}
 use Rattle.std.proofs.lemmas.Bool.{cases_lt, lt-ltb, cond-true}
 use Rattle.rows.specs.Searches.{place_from, found, without}
-use Rattle.rows.proofs.Searching.{First, first-at, missed}
+use Rattle.rows.proofs.Searching.{first-at}
 use Rattle.rings.specs.Circles.{turned, spot, next, raised_up}
 use Rattle.rings.proofs.Turning.{length-turned, turned_set, turned-next, next-within}
 use Rattle.rings.proofs.Raising.{drop_raised}

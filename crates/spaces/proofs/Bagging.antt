@@ -1,6 +1,6 @@
 -- Copies at sites that a bag of located tuples has, gains and loses. Assumes nothing.
-use Rattle.std.proofs.Common.{◌≡◌, ℕ, ◌+◌, ◌<◌, ◌≤◌, Bool, true, false, ◌&&◌, eqb, ltb, leb, List, Ok, Err, Decides, sym, refl, ap, ◌∙◌, arith}
-use Rattle.std.proofs.lemmas.Bool.{eqb-true, eq-eqb, le-leb, lt-ltb, le-ltb, and_parts, and_from}
+use Rattle.std.proofs.Common.{◌≡◌, ℕ, ◌<◌, ◌≤◌, true, eqb, leb, List, Ok, Err, Decides, sym, refl, ap, arith}
+use Rattle.std.proofs.lemmas.Bool.{eqb-true, le-leb, lt-ltb, le-ltb, and_parts}
 use Rattle.std.proofs.lemmas.Bool.Decides.{Decides-and, Decides-like, Decides-eqb}
 use Rattle.tuples.specs.declared.tuple.Tuple.{Tuple}
 use Rattle.tuples.specs.declared.template.Template.{Template}
@@ -9,7 +9,6 @@ use Rattle.tuples.specs.Matching.{matches}
 use Rattle.tuples.specs.Padding.{same_tuple-decides}
 use Rattle.rows.specs.Bags.{once, many, Same, Gains}
 use Rattle.rows.proofs.Counting.{many_implied, same-from-copies}
-use Rattle.spaces.specs.declared.space.PutRefusal.{PutRefusal}
 use Rattle.spaces.specs.declared.space.PutRefusal.TheVariants.{NoSuchSite, Full}
 use Rattle.spaces.specs.Spaces.{Located, Bounded, at, hits, is, copies}
 use Rattle.spaces.specs.Answers.{put_answer}

@@ -1,5 +1,5 @@
 -- Rows that hold tuples, as the bag of what they hold. Assumes nothing.
-use Rattle.std.proofs.Common.{◌≡◌, ℕ, ◌+◌, Bool, true, ◌&&◌, eqb, List, [], ◌∷◌, ◌++◌, map, Some, None, sym, refl, ap, ◌∙◌, arith}
+use Rattle.std.proofs.Common.{◌≡◌, ℕ, ◌+◌, Bool, true, ◌&&◌, eqb, List, [], ◌∷◌, ◌++◌, map, Some, None, sym, refl, ap, ◌∙◌}
 use Rattle.std.proofs.lemmas.Bool.{eqb-true, and_parts}
 use Rattle.tuples.specs.declared.site.Site.{Site}
 use Rattle.tuples.specs.declared.tuple.Tuple.{Tuple}
@@ -7,9 +7,9 @@ use Rattle.tuples.specs.declared.template.Template.{Template}
 use Rattle.tuples.specs.Matching.{matches}
 use Rattle.rows.specs.Bags.{once, many, Same, Gains}
 use Rattle.rows.specs.Searches.{found, without}
-use Rattle.rows.proofs.Counting.{many-map, gains_last, found-passes, found_gains, none_many, none_without}
+use Rattle.rows.proofs.Counting.{many-map, gains_last, found-passes, found_gains, none_many}
 use Rattle.spaces.specs.declared.held.Held.{Held}
-use Rattle.spaces.specs.Spaces.{Located, at, hits}
+use Rattle.spaces.specs.Spaces.{at, hits}
 use Rattle.spaces.specs.TraySpaces.{located}
 use Rattle.spaces.proofs.Bagging.{located-told}
 

@@ -1,6 +1,6 @@
 -- What a tray of tuples holds as a space. Assumes nothing.
-use Rattle.std.specs.Prelude.{◌≡◌, ℕ, ◌≤◌, Bool, leb, List, [], ◌∷◌, map, length, nat_le, refl}
-use Rattle.std.proofs.Common.{ap, ◌∙◌, arith, length-take}
+use Rattle.std.specs.Prelude.{◌≡◌, leb, List, [], ◌∷◌, map, nat_le, refl}
+use Rattle.std.proofs.Common.{ap, arith, length-take}
 use Rattle.std.proofs.lemmas.List.{length-map}
 use Rattle.std.proofs.lemmas.Bool.{lt-leb}
 use Rattle.rows.specs.declared.tray.Tray.{Tray}

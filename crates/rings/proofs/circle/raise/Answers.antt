@@ -1,4 +1,4 @@
-use Rattle.std.proofs.Common.{◌≡◌, ℕ, ◌+◌, ◌-◌, ◌<◌, List, length, set, ap, ◌∙◌, subst, arith}
+use Rattle.std.proofs.Common.{◌≡◌, ℕ, ◌+◌, ◌-◌, ◌<◌, length, subst, arith}
 use Rattle.rings.specs.Circles.{turned}
 use Rattle.rings.proofs.Turning.{length-turned}
 use Rattle.rings.proofs.Raising.{Raised, raised_none, raised_more, raised_all}

@@ -1,5 +1,5 @@
-use Rattle.std.proofs.Common.{◌≡◌, ◌+◌, ◌-◌, ◌<◌, Bool, length, take, drop, ap, arith}
-use Rattle.std.proofs.lemmas.List.{length-take, length-drop}
+use Rattle.std.proofs.Common.{◌≡◌, ◌+◌, ◌-◌, Bool, take, drop, ap, arith}
+use Rattle.std.proofs.lemmas.List.{length-take}
 use Rattle.rings.proofs.Ringing.{seek_older, seek_newer, seek_none}
 use Rattle.rings.proofs.circle.seek.Goals as goal
 

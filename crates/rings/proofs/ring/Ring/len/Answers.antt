@@ -1,4 +1,4 @@
-use Rattle.std.proofs.Common.{◌≡◌, sym, ap, ◌∙◌, arith}
+use Rattle.std.proofs.Common.{◌≡◌, sym, ◌∙◌, arith}
 use Rattle.rings.specs.Rings.{filled}
 use Rattle.rings.proofs.Ringing.{length_ringed}
 use Rattle.rings.proofs.ring.Ring.len.Goals as goal

@@ -1,4 +1,4 @@
-use Rattle.std.proofs.Common.{◌≡◌, ℕ, ◌-◌, ◌<◌, min, Bool, take, IfSome, sym, ap, ◌∙◌, subst, arith}
+use Rattle.std.proofs.Common.{◌≡◌, ℕ, ◌-◌, ◌<◌, Bool, take, IfSome, ◌∙◌, subst, arith}
 use Rattle.rows.specs.Searches.{place_from}
 use Rattle.rings.specs.Circles.{turned}
 use Rattle.rings.proofs.ring.Ring.seek.Goals as goal
