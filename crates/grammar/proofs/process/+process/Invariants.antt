@@ -1,7 +1,7 @@
 use Rattle.std.proofs.Common.{◌≡◌, ◌+◌, ◌-◌, ◌*◌, ◌≤◌, List, ◌∷◌, length}
 use Rattle.lex.specs.Tokens.{from}
 use Rattle.syntax.specs.Machine.{Sym, proc, item, many, bars, opens, run}
-use Rattle.grammar.proofs.process.+read_action_read_bracket_read_eval_read_item_read_prefix_read_process.Given as goal
+use Rattle.grammar.proofs.process.+process.Given as goal
 
 abbrev pub decreases-read-bracket : goal.decreases-read-bracket
 decreases-read-bracket l = 4 * (length l.text.now - l.at)

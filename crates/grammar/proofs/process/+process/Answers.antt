@@ -8,7 +8,7 @@ use Rattle.syntax.specs.Machine.{sign, upto, many, bars, item, opening, unexpect
 use Rattle.syntax.specs.declared.Entries.TheVariants.{Fields}
 use Rattle.grammar.proofs.Walk.{strays, refuses, further, not_end}
 use Rattle.grammar.proofs.Nest.{anywhere, through_in, instead_in, nil_goes, prefix_goes, behind, proc-item, many_goes, many_skips, opening-no, opening-deep, inner_no, inner_then}
-use Rattle.grammar.proofs.process.+read_action_read_bracket_read_eval_read_item_read_prefix_read_process.Goals as goal
+use Rattle.grammar.proofs.process.+process.Goals as goal
 
 pub read-bracket-returns-in-err-t : goal.read-bracket-returns-in-err-t
 read-bracket-returns-in-err-t t c =
