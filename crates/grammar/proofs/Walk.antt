@@ -1,5 +1,5 @@
 -- What the machine does at the token that the tokeniser found.
-use Rattle.std.proofs.Common.{◌≡◌, ℕ, zero, suc, ◌+◌, ◌-◌, ◌<◌, ◌≤◌, Bool, true, false, List, [], ◌∷◌, ◌++◌, length, Some, None, Ok, Err, Option, Result, sym, refl, ap, ◌∙◌, arith}
+use Rattle.std.proofs.Common.{◌≡◌, ℕ, zero, suc, ◌-◌, ◌<◌, ◌≤◌, Bool, true, false, List, [], ◌∷◌, ◌++◌, length, Some, None, Ok, Err, Option, Result, sym, refl, ap, ◌∙◌, arith}
 use Rattle.std.proofs.lemmas.Bool.{cond-true, cond-false, false≢true}
 use Rattle.lex.specs.Next.{Found, Stray, plain, is_end}
 use Rattle.lex.specs.Tokens.{Tok, from}
@@ -7,7 +7,7 @@ use Rattle.lex.specs.declared.Kind.{Kind}
 use Rattle.lex.specs.declared.Kind.TheVariants.{End, Reserved, Name, Variable, Word, Number, Sign}
 use Rattle.lex.specs.declared.Token.{Token}
 use Rattle.syntax.specs.Limits.{strict}
-use Rattle.syntax.specs.Machine.{Sym, leaf, entry, more, upto, sign, Why, unexpected, number, Step, go, no, done, fits, starts, is_sign, begins, step, run}
+use Rattle.syntax.specs.Machine.{Sym, leaf, entry, more, upto, sign, Why, unexpected, number, Step, go, no, done, fits, starts, is_sign, step, run}
 use Rattle.grammar.specs.Reads.{Reads, answer}
 use Rattle.syntax.specs.declared.Entries.{Entries}
 use Rattle.syntax.specs.declared.Entries.TheVariants.{Params}

@@ -12,7 +12,7 @@ use syntax::{Entries, Terminal};
 const DEEPEST: usize = 16;
 
 /// Reads items joined by `|`, under `depth` open brackets.
-#[cycle(read_action_read_bracket_read_eval_read_item_read_prefix_read_process)]
+#[cycle(process)]
 pub(crate) fn read_process(text: &[u8], at: usize, depth: usize) -> Result<usize, (u8, usize)>
     requires { at ≤ length text.now }
     ensures { ReadsIn depth (proc ∷ []) text.now at result }
@@ -28,7 +28,7 @@ pub(crate) fn read_process(text: &[u8], at: usize, depth: usize) -> Result<usize
 }
 
 // Actions, each with a dot behind it, and then `nil`, a call or a bracket.
-#[cycle(read_action_read_bracket_read_eval_read_item_read_prefix_read_process)]
+#[cycle(process)]
 fn read_item(text: &[u8], at: usize, depth: usize) -> Result<usize, (u8, usize)>
     requires { at ≤ length text.now }
     ensures { ReadsIn depth (item ∷ []) text.now at result }
@@ -49,7 +49,7 @@ fn read_item(text: &[u8], at: usize, depth: usize) -> Result<usize, (u8, usize)>
 }
 
 // What follows the word of an action, which stands at `start`, and the dot behind the action.
-#[cycle(read_action_read_bracket_read_eval_read_item_read_prefix_read_process)]
+#[cycle(process)]
 fn read_prefix(
     text: &[u8],
     at: usize,
@@ -65,7 +65,7 @@ fn read_prefix(
 }
 
 // What follows the word of an action, which stands at `start`.
-#[cycle(read_action_read_bracket_read_eval_read_item_read_prefix_read_process)]
+#[cycle(process)]
 fn read_action(
     text: &[u8],
     at: usize,
@@ -86,7 +86,7 @@ fn read_action(
     }
 }
 
-#[cycle(read_action_read_bracket_read_eval_read_item_read_prefix_read_process)]
+#[cycle(process)]
 fn read_eval(text: &[u8], at: usize, depth: usize) -> Result<usize, (u8, usize)>
     requires { at ≤ length text.now }
     ensures { ReadsIn depth (opening ∷ sign 64 ∷ leaf Terminal.Target ∷ []) text.now at result }
@@ -96,7 +96,7 @@ fn read_eval(text: &[u8], at: usize, depth: usize) -> Result<usize, (u8, usize)>
 }
 
 // `(P)`
-#[cycle(read_action_read_bracket_read_eval_read_item_read_prefix_read_process)]
+#[cycle(process)]
 fn read_bracket(text: &[u8], at: usize, depth: usize) -> Result<usize, (u8, usize)>
     requires { at ≤ length text.now }
     ensures { ReadsIn depth (opening ∷ []) text.now at result }

@@ -1,5 +1,5 @@
 -- What a byte is, and what a run of letters and digits is.
-use Rattle.std.specs.Prelude.{ℕ, Bool, false, cond, not, ◌&&◌, ◌||◌, leb, List, length, Some, None, codes, Option, ◌==◌, nat_le}
+use Rattle.std.specs.Prelude.{ℕ, Bool, false, cond, not, ◌&&◌, ◌||◌, List, length, Some, None, codes, Option, ◌==◌, nat_le}
 use Rattle.std.specs.List.{prefix_len}
 use Rattle.std.specs.Str.{bytes_eq}
 use Rattle.lex.specs.declared.Keyword.{Keyword}
@@ -57,4 +57,4 @@ run_kind w = elim (reserved w) [ Some k ↦ Some (Reserved k) | None ↦ cond (n
 
 -- a name is no reserved word and has at most 16 bytes
 abbrev pub is_name : List ℕ → Bool
-is_name w = elim (reserved w) [ Some k ↦ false | None ↦ leb (length w) 16 ]
+is_name w = elim (reserved w) [ Some k ↦ false | None ↦ nat_le (length w) 16 ]

@@ -1,6 +1,6 @@
 -- Nodes are numbered in the order of the text, and none leads out of its process. Assumes nothing.
 use Rattle.std.proofs.Common.{◌≡◌, ℕ, suc, ◌+◌, ◌<◌, ◌≤◌, List, [], ◌∷◌, ◌++◌, length, refl, arith, length-append}
-use Rattle.syntax.specs.Tree.{Proc, one, par, Item, nil, call, act, group, Action, out, inp, read, eval, newloc, Net}
+use Rattle.syntax.specs.Tree.{one, par, Item, nil, call, act, group, Action, out, inp, read, eval, newloc, Net}
 use Rattle.reader.specs.Scopes.{Scope}
 use Rattle.reader.specs.Faults.{proc_nodes, item_nodes, action_nodes, behind}
 use Rattle.reader.specs.ReadNets.{Node, nil_node, par_node, call_node, out_node, in_node, read_node, eval_node, new_node, proc_first, item_first, proc_table, item_table, action_table}

@@ -2,9 +2,9 @@
 use Rattle.std.specs.Prelude.{◌≡◌, ℕ, List, [], ◌∷◌, replicate, pos, Some, None, codes, Option}
 use Rattle.lex.specs.Tokens.{from}
 use Rattle.syntax.specs.Grammar.{leaves}
-use Rattle.syntax.specs.Tree.{Named, num_type, word_type, site_type, Field, number, word, name, variable, to_name, to_variable, Place, field, formal, Proc, one, par, Item, nil, call, act, group, Action, out, inp, read, eval, newloc, SiteLine, DefLine, PutLine, RunLine, Net, net_text, last}
+use Rattle.syntax.specs.Tree.{Named, num_type, site_type, number, name, variable, to_name, to_variable, field, formal, one, par, nil, call, act, group, out, inp, read, eval, newloc, Net, net_text, last}
 use Rattle.reader.specs.Faults.{Fault, fault, faults, least}
-use Rattle.reader.specs.ReadNets.{num, word_no, site_no, alias_no, slot_no, actual, bind, Node, nil_node, par_node, call_node, out_node, in_node, read_node, eval_node, new_node, ReadNet, read_net}
+use Rattle.reader.specs.ReadNets.{num, site_no, alias_no, slot_no, actual, bind, Node, nil_node, par_node, call_node, out_node, in_node, read_node, eval_node, new_node, ReadNet, read_net}
 
 abbrev named : List ℕ → ℕ → Named
 named w s = record { text = w; start = s }

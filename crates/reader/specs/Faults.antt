@@ -1,11 +1,11 @@
 -- The faults of a net in names, types and tables, each with its place and its number: 5 a variable that is not in scope or a
 -- name that is not declared as what is needed, 6 what is declared or bound twice, 7 a wrong type or number of arguments,
 -- 8 more than a table holds. Assumes nothing.
-use Rattle.std.specs.Prelude.{ℕ, suc, ◌+◌, Bool, true, false, cond, not, ◌&&◌, ◌||◌, List, [], ◌∷◌, ◌++◌, map, length, drop, is_some, Some, None, Option, ◌==◌, nat_le, nat_lt}
+use Rattle.std.specs.Prelude.{ℕ, suc, Bool, true, cond, not, ◌&&◌, ◌||◌, List, [], ◌∷◌, ◌++◌, map, length, drop, is_some, Some, None, Option, ◌==◌, nat_le, nat_lt}
 use Rattle.std.specs.Str.{bytes_eq}
-use Rattle.syntax.specs.Tree.{Named, Ty, num_type, word_type, site_type, Field, number, word, name, variable, Target, to_name, to_variable, Place, field, formal, Typed, Proc, one, par, Item, nil, call, act, group, Action, out, inp, read, eval, newloc, Alias, SiteLine, DefLine, PutLine, RunLine, Net}
-use Rattle.reader.specs.Names.{place_of, same, gathered, some_of, upto_of, words, aliases, self, site_number, alias_number, def_number}
-use Rattle.reader.specs.Scopes.{Bound, Scope, Slot, look, bound, formals_of, within, with_site, same_ty}
+use Rattle.syntax.specs.Tree.{Named, Ty, num_type, word_type, site_type, Field, number, word, name, variable, Target, to_name, to_variable, Place, field, formal, Typed, Proc, one, par, Item, nil, call, act, group, Action, out, inp, read, eval, newloc, SiteLine, DefLine, PutLine, RunLine, Net}
+use Rattle.reader.specs.Names.{place_of, same, gathered, some_of, upto_of, words, aliases, self, site_number, alias_number}
+use Rattle.reader.specs.Scopes.{Scope, Slot, look, formals_of, within, with_site, same_ty}
 
 -- what is wrong with a text: the place of the token, and the number of the refusal
 pub record Fault : Type 0 where

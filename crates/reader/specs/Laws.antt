@@ -1,5 +1,5 @@
 -- The laws of texts that contracts name. Assumes nothing.
-use Rattle.std.specs.Prelude.{◌≡◌, ℕ, ◌+◌, ◌<◌, ◌≤◌, true, List, [], ◌∷◌, length, get_or, Some, None, slice_index_or}
+use Rattle.std.specs.Prelude.{◌≡◌, ℕ, ◌+◌, ◌<◌, ◌≤◌, true, List, [], ◌∷◌, length, Some, None, slice_index_or}
 use Rattle.syntax.specs.Tree.{Proc, Net}
 use Rattle.reader.specs.Scopes.{Scope}
 use Rattle.reader.specs.Faults.{Fault, before, least, proc_nodes}
@@ -9,7 +9,7 @@ use Rattle.reader.specs.ReadNets.{Node, nil_node, par_node, call_node, out_node,
 pub record DecidesLeast (fs : List Fault) (f : Fault) : Type 0 where
   pub at : ℕ
   pub within : at < length fs
-  pub is : get_or fs at f ≡ f
+  pub is : slice_index_or fs at f ≡ f
   pub first : (k : ℕ) → k < length fs → before f (slice_index_or fs k f) ≡ true
 
 -- of every list of faults the least decides

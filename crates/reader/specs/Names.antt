@@ -1,8 +1,8 @@
 -- The names, words and aliases of a text, and what each name stands for. Assumes nothing.
-use Rattle.std.specs.Prelude.{ℕ, zero, suc, ◌+◌, Bool, true, false, cond, not, ◌&&◌, ◌||◌, eqb, List, [], ◌∷◌, ◌++◌, map, is_some, Some, None, codes, Option}
+use Rattle.std.specs.Prelude.{ℕ, zero, suc, Bool, cond, List, [], ◌∷◌, ◌++◌, map, is_some, Some, None, codes, Option}
 use Rattle.std.specs.Option.{option_map}
 use Rattle.std.specs.Str.{bytes_eq}
-use Rattle.syntax.specs.Tree.{Named, Field, number, word, name, variable, Place, field, formal, Typed, More, OneToFour, UpToFour, Proc, one, par, Item, nil, call, act, group, Action, out, inp, read, eval, newloc, Alias, SiteLine, DefLine, PutLine, RunLine, Net}
+use Rattle.syntax.specs.Tree.{Named, Field, number, word, name, variable, Place, field, formal, More, OneToFour, UpToFour, Proc, one, par, Item, nil, call, act, group, Action, out, inp, read, eval, newloc, Net}
 
 -- the place of the first element that passes
 abbrev pub place_of : {A : Type 0} → (A → Bool) → List A → Option ℕ

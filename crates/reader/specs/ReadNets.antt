@@ -1,10 +1,10 @@
 -- The net that a text without faults stands for. Assumes nothing.
-use Rattle.std.specs.Prelude.{ℕ, suc, ◌+◌, cond, List, [], ◌∷◌, ◌++◌, map, length, replicate, ℤ, pos, Some, None, Option, slice_set}
+use Rattle.std.specs.Prelude.{ℕ, suc, ◌+◌, List, [], ◌∷◌, ◌++◌, map, length, replicate, ℤ, pos, Some, None, Option, slice_set}
 use Rattle.std.specs.Option.{unwrap_or}
-use Rattle.syntax.specs.Tree.{Named, Ty, Field, number, word, name, variable, Target, to_name, to_variable, Place, field, formal, Typed, Proc, one, par, Item, nil, call, act, group, Action, out, inp, read, eval, newloc, Alias, SiteLine, DefLine, PutLine, RunLine, Net}
+use Rattle.syntax.specs.Tree.{Ty, Field, number, word, name, variable, Target, to_name, to_variable, Place, field, formal, Proc, one, par, Item, nil, call, act, group, Action, out, inp, read, eval, newloc, Alias, SiteLine, DefLine, RunLine, Net}
 use Rattle.reader.specs.Names.{gathered, some_of, upto_of, words, aliases, site_number, alias_number, def_number, word_number}
-use Rattle.reader.specs.Scopes.{Scope, Slot, look, formals_of, within}
-use Rattle.reader.specs.Faults.{behind, proc_nodes, item_nodes, action_nodes, params_of}
+use Rattle.reader.specs.Scopes.{Scope, Slot, look, within}
+use Rattle.reader.specs.Faults.{behind, proc_nodes, action_nodes, params_of}
 
 -- what a field of a process says: a number, a word, a site, an alias, or the slot of a variable
 pub data Term : Type 0 where

@@ -8,7 +8,7 @@ use Rattle.lex.specs.declared.Kind.TheVariants.{End, Reserved, Name, Variable, W
 use Rattle.syntax.specs.Grammar.{leaf_of, shown, leaves, Written, Exact}
 use Rattle.syntax.specs.Limits.{Limits, strict}
 use Rattle.syntax.specs.Machine.{aliases, bars, lines, Sym, leaf, entry, more, upto, many, proc, item, opening, closing, Why, unexpected, deep, outside, number, Step, go, no, done, sign, tag, is_sign, is_variable, fits, starts, heads, takes, fielded, entered, opens, opened, verb, acted, begins, net, step, run}
-use Rattle.syntax.specs.Tree.{Leaf, last, bar, mark}
+use Rattle.syntax.specs.Tree.{Leaf, bar, mark}
 use Rattle.lex.specs.declared.Keyword.TheVariants.{Nil}
 use Rattle.syntax.specs.declared.Entries.{Entries}
 use Rattle.syntax.specs.declared.Entries.TheVariants.{Fields, Places, Params}

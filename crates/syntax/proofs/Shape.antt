@@ -6,7 +6,7 @@ use Rattle.lex.specs.declared.Keyword.TheVariants.{Site, Def, Put, Run, Nil, Out
 use Rattle.lex.specs.declared.Kind.{Kind}
 use Rattle.lex.specs.declared.Kind.TheVariants.{End, Reserved, Name, Variable, Word, Number, Sign}
 use Rattle.syntax.specs.Limits.{Limits, FieldFits, PlaceFits, MoreFit, SomeFit, UptoFit, ProcFits, ItemFits, AllFit}
-use Rattle.syntax.specs.Machine.{Repeat, aliases, bars, lines, Sym, leaf, entry, more, upto, many, proc, item, opening, closing, Step, go, no, done, tag, is_key, is_sign, is_name, is_variable, type_of, is_type, body, opens, step}
+use Rattle.syntax.specs.Machine.{Repeat, aliases, bars, lines, Sym, leaf, entry, more, upto, many, proc, item, opening, closing, Step, go, no, done, tag, is_key, is_sign, is_name, is_variable, type_of, is_type, opens}
 use Rattle.syntax.specs.Tree.{Named, Field, Target, Ty, num_type, word_type, site_type, Typed, Place, More, UpToFour, Proc, par, Item, Alias, SiteLine, DefLine, PutLine, RunLine, Leaf, last, mark, bar, key, name_leaf, variable_leaf, field_text, target_text, type_key, typed_text, place_text, more_text, upto_text, proc_text, item_text, many_text, alias_text, site_text, def_text, put_text, run_text}
 use Rattle.syntax.specs.declared.Entries.{Entries}
 use Rattle.syntax.specs.declared.Entries.TheVariants.{Fields, Places, Params}

@@ -16,7 +16,7 @@ use Rattle.syntax.specs.declared.Entries.TheVariants.{Fields, Places, Params}
 use Rattle.syntax.specs.declared.Lines.TheVariants.{Sites, Defs, Puts, Runs}
 use Rattle.syntax.specs.declared.Terminal.{Terminal}
 use Rattle.syntax.specs.declared.Terminal.TheVariants.{Sign as ASign, Name as AName, Variable as AVariable, TypeWord as AType, Target as ATarget}
-use Rattle.syntax.proofs.Shape.{TermOf, term_text, BodyOf, body_text, BodyFits, text, Stands, After, Sorts, texts, AllFits, split, grow, grow_text, grow_fits, sign-is, name-is, variable-is, type-is, key-is}
+use Rattle.syntax.proofs.Shape.{TermOf, term_text, BodyOf, body_text, BodyFits, Stands, After, Sorts, texts, AllFits, split, grow, grow_text, grow_fits, sign-is, name-is, variable-is, type-is, key-is}
 
 module _ (l : Limits) (t : Tok) where
   abbrev here : Named

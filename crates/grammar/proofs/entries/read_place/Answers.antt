@@ -7,16 +7,16 @@ use Rattle.syntax.specs.declared.Terminal.TheVariants.{Variable, TypeWord}
 use Rattle.grammar.proofs.Walk.{strays, through, instead, not_end}
 use Rattle.grammar.proofs.entries.read_place.Goals as goal
 
-pub returns-in-err-t : goal.returns-in-err-t
-returns-in-err-t c =
-    let p = err_from_is_err_and c.from-residual.result c.from-residual.ensures.1 in
-    rw (p.1, p.2) (λ k. strays c.in-err-t.ensures (entry Places ∷ k))
+pub returns-in_err-t : goal.returns-in_err-t
+returns-in_err-t c =
+    let p = err_from_is_err_and c.from_residual.result c.from_residual.ensures.1 in
+    rw (p.1, p.2) (λ k. strays c.in_err-t.ensures (entry Places ∷ k))
 
-pub returns-then-is-sign : goal.returns-then-is-sign
-returns-then-is-sign c =
-    let is = sym c.if-is-sign.ensures in
-    through c.in-ok-t.ensures c.requires (entry Places) (leaf Variable ∷ sign 58 ∷ leaf TypeWord ∷ []) _ (not_end (is_sign 33) refl _ is) (λ k. cond-true _ _ _ is) c.read-param.ensures
+pub returns-then-is_sign : goal.returns-then-is_sign
+returns-then-is_sign c =
+    let is = sym c.if-is_sign.ensures in
+    through c.in_ok-t.ensures c.requires (entry Places) (leaf Variable ∷ sign 58 ∷ leaf TypeWord ∷ []) _ (not_end (is_sign 33) refl _ is) (λ k. cond-true _ _ _ is) c.read_param.ensures
 
-pub returns-else-is-sign : goal.returns-else-is-sign
-returns-else-is-sign c =
-    instead c.in-ok-t.ensures (entry Places ∷ []) (entry Fields ∷ []) _ (λ k. cond-false _ _ _ (sym c.if-is-sign.ensures)) c.read-field.ensures
+pub returns-else-is_sign : goal.returns-else-is_sign
+returns-else-is_sign c =
+    instead c.in_ok-t.ensures (entry Places ∷ []) (entry Fields ∷ []) _ (λ k. cond-false _ _ _ (sym c.if-is_sign.ensures)) c.read_field.ensures

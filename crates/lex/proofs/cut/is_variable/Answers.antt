@@ -6,5 +6,5 @@ use Rattle.lex.proofs.cut.is_variable.Goals as goal
 
 pub past-n-requires : goal.past-n-requires
 past-n-requires c =
-    let letter = ap (member Letter) (sym c.byte-at-else-byte-at-ne36.ensures) ∙ sym c.if-not-belongs.ensures in
+    let letter = ap (member Letter) (sym c.byte_at-else-byte_at-ne36.ensures) ∙ sym c.if-not-belongs.ensures in
     omega (arith, stands_within (member Letter) refl c.args.bytes.now 1 letter)

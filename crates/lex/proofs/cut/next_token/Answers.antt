@@ -1,4 +1,4 @@
-use Rattle.std.proofs.Common.{◌+◌, ◌-◌, ◌<◌, min, length, drop, ap, ◌∙◌, arith}
+use Rattle.std.proofs.Common.{◌+◌, ◌<◌, length, drop, ap, ◌∙◌, arith}
 use Rattle.lex.specs.Bytes.{leads}
 use Rattle.lex.specs.declared.bytes.Class.TheVariants.{Blank}
 use Rattle.lex.proofs.Cutting.{found-end, next_cut, no_bytes, whole-rest}

@@ -13,7 +13,7 @@ loop-b-preserved c =
     let ds = c.args.digits.now in
     let i = c.loop-b.b-index in
     let more : value (take (i + 1) ds) ≡ value (take i ds) * 10 + (get_or ds i 0 - 48) = fold_more (λ n b. n * 10 + (b - 48)) 0 ds i 0 (omega arith) in
-    capped_more (value (take i ds)) _ _ _ _ _ c.loop-b.invariant c.saturating-sub-d.ensures c.min-n.ensures more
+    capped_more (value (take i ds)) _ _ _ _ _ c.loop-b.invariant c.saturating_sub-d.ensures c.min-n.ensures more
 
 pub returns : goal.returns
 returns c = c.loop-b.invariant ∙ ap (λ l. min (value l) 4294967296) (take_all _ c.args.digits.now (omega arith))
