@@ -1,6 +1,5 @@
-#![tactic(auto)]
-
 //! Runs one list of questions over both spaces, and one over both carriers, and says whether they agree.
+#![tactic(auto)]
 
 use anyhow::anyhow;
 use carriers::letter::{Body, Letter};

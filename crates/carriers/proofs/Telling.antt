@@ -15,12 +15,12 @@ use Rattle.carriers.specs.declared.thread_row.ThreadRow.{ThreadRow}
 use Rattle.carriers.specs.declared.letter.Letter.{Letter}
 use Rattle.carriers.specs.declared.letter.Body.{Body}
 use Rattle.carriers.specs.declared.letter.Body.TheVariants.{Goods, Mover, InRequest, ReadRequest, Reply}
-use Rattle.carriers.specs.contracts.thread_row.ThreadRow as thread-row
+use Rattle.carriers.specs.contracts.thread_row.ThreadRow as thread_row
 use Rattle.carriers.specs.Letters.{kind_of, row_of, actuals, places_in, same_letter}
 use Rattle.carriers.specs.Carriers.{copies}
 
 pub row_told : (a b : ThreadRow) → a.number ≡ b.number → a ≡ b
-row_told a b e = values_one thread-row.struct thread-row.the_propositions a b (ap (λ n. (n, tt)) e)
+row_told a b e = values_one thread_row.struct thread_row.the_propositions a b (ap (λ n. (n, tt)) e)
 
 actual-told : (fs gs : List Field) → map Actual fs ≡ map Actual gs → fs ≡ gs
 actual-told [] [] e = refl

@@ -1,6 +1,5 @@
-#![tactic(auto)]
-
 //! Letters between sites: what every carrier promises, the carrier that keeps them in a tray and the one that keeps them in a ring.
+#![tactic(auto)]
 
 pub mod carrier;
 pub mod laws;

@@ -1,5 +1,5 @@
 -- A chained space keeps its limit, and holds copies at the 32 sites only. Assumes nothing.
-use Rattle.std.specs.Prelude.{◌≡◌, ℕ, zero, suc, ◌<◌, ◌≤◌, Bool, true, false, cond, leb, List, [], ◌∷◌, map, length, Some, None, Option, nat_le, nat_lt, refl}
+use Rattle.std.specs.Prelude.{◌≡◌, ℕ, zero, suc, ◌<◌, ◌≤◌, Bool, true, false, cond, List, [], ◌∷◌, map, length, Some, None, Option, nat_le, nat_lt, refl}
 use Rattle.std.proofs.Common.{ap, arith, length-append}
 use Rattle.std.specs.Option.{option_to_list}
 use Rattle.std.proofs.lemmas.List.{length-map}
@@ -32,14 +32,14 @@ unfolding upto total
 bag-at-most s zero = omega arith
 bag-at-most s (suc n) = omega (arith, length-append (upto n (λ c. map (at c) (tuples_of s c))) (map (at n) (tuples_of s n)), bag-at-most s n, length-map (tuples_of s n) (at n), cond-at-most (nat_lt n 32) (chain_in s n), tuples-at-most s.rows.now (next_of s.rows.now) (ends_of s.ends n).many (ends_of s.ends n).first)
 
-all-at : (c : ℕ) → c < 32 → (ts : List Tuple) → many (λ x. leb 32 x.site) (map (at c) ts) ≡ 0
+all-at : (c : ℕ) → c < 32 → (ts : List Tuple) → many (λ x. nat_le 32 x.site) (map (at c) ts) ≡ 0
 all-at c l [] = refl
 all-at c l (t ∷ ts) = let low : once (nat_le 32 c) ≡ 0 = ap once (lt-leb 32 c l) in omega (arith, low, all-at c l ts)
 
-bag-sited : (s : Chains) (n : ℕ) → n ≤ 32 → many (λ x. leb 32 x.site) (upto n (λ c. map (at c) (tuples_of s c))) ≡ 0
+bag-sited : (s : Chains) (n : ℕ) → n ≤ 32 → many (λ x. nat_le 32 x.site) (upto n (λ c. map (at c) (tuples_of s c))) ≡ 0
 unfolding upto
 bag-sited s zero h = refl
-bag-sited s (suc n) h = omega (arith, many-append (λ x. leb 32 x.site) (upto n (λ c. map (at c) (tuples_of s c))) (map (at n) (tuples_of s n)), bag-sited s n (omega arith), all-at n (omega arith) (tuples_of s n))
+bag-sited s (suc n) h = omega (arith, many-append (λ x. nat_le 32 x.site) (upto n (λ c. map (at c) (tuples_of s c))) (map (at n) (tuples_of s n)), bag-sited s n (omega arith), all-at n (omega arith) (tuples_of s n))
 
 more : (g : ℕ → ℕ) (n : ℕ) → total n g ≤ total (suc n) g
 unfolding total

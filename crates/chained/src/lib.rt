@@ -1,6 +1,5 @@
-#![tactic(auto)]
-
 //! The chained tuple space: rows of the caller's memory, linked into a chain for each site and one of free rows.
+#![tactic(auto)]
 
 pub mod chains;
 mod ends;

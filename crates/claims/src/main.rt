@@ -1,6 +1,5 @@
-#![tactic(auto)]
-
 //! Offices contend for claims on sheets, through whatever space they are given.
+#![tactic(auto)]
 
 use anyhow::anyhow;
 use rows::tray::Tray;

@@ -1,6 +1,6 @@
+// The first round of the reader: whether a text is one of the grammar.
 #![tactic(auto)]
 
-// The first round of the reader: whether a text is one of the grammar.
 mod entries;
 mod net;
 mod process;

@@ -1,6 +1,6 @@
+// The tokeniser: it cuts a text into tokens, one at each call.
 #![tactic(auto)]
 
-// The tokeniser: it cuts a text into tokens, one at each call.
 mod bytes;
 mod cut;
 mod number;

@@ -1,6 +1,5 @@
-#![tactic(auto)]
-
 //! Rows of the caller's memory kept as a ring, oldest first.
+#![tactic(auto)]
 
 mod circle;
 pub mod ring;

@@ -1,6 +1,5 @@
-#![tactic(auto)]
-
 //! Rows of the caller's memory: the question that finds one, the search for it, and the tray that keeps them.
+#![tactic(auto)]
 
 pub mod laws;
 pub mod row;

@@ -1,6 +1,6 @@
+// Checks each line of the input as a text of its own, and prints the answer's number and place.
 #![tactic(auto)]
 
-// Checks each line of the input as a text of its own, and prints the answer's number and place.
 use std::io;
 
 fn main(rt: HostRuntime) -> io::Result<()> {

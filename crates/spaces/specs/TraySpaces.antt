@@ -1,5 +1,5 @@
 -- What a tray of tuples holds as a space. Assumes nothing.
-use Rattle.std.specs.Prelude.{◌≡◌, leb, List, [], ◌∷◌, map, nat_le, refl}
+use Rattle.std.specs.Prelude.{◌≡◌, List, [], ◌∷◌, map, nat_le, refl}
 use Rattle.std.proofs.Common.{ap, arith, length-take}
 use Rattle.std.proofs.lemmas.List.{length-map}
 use Rattle.std.proofs.lemmas.Bool.{lt-leb}
@@ -13,7 +13,7 @@ use Rattle.spaces.specs.Spaces.{Located, Bounded, at}
 abbrev pub located : Held → Located
 located x = at x.site.number x.tuple
 
-pub rows_sited : (xs : List Held) → many (λ x. leb 32 x.site) (map located xs) ≡ 0
+pub rows_sited : (xs : List Held) → many (λ x. nat_le 32 x.site) (map located xs) ≡ 0
 rows_sited [] = refl
 rows_sited (x ∷ xs) =
     let low : once (nat_le 32 x.site.number) ≡ 0 = ap once (lt-leb 32 x.site.number x.site.below) in

@@ -1,6 +1,5 @@
-#![tactic(auto)]
-
 //! Tuple spaces: what every space promises, and the space that keeps its tuples in a tray.
+#![tactic(auto)]
 
 pub mod held;
 pub mod laws;

@@ -1,7 +1,7 @@
-#![tactic(auto)]
-
 // The grammar's trees, its machine and the theorems about them, with the terms that code and
 // definitions share.
+#![tactic(auto)]
+
 mod stands;
 
 pub use stands::{decided_stands, exact_stands, refused_stands, unique_stands};

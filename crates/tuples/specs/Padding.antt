@@ -10,9 +10,9 @@ use Rattle.tuples.specs.declared.place.Place.TheVariants.{Actual}
 use Rattle.tuples.specs.declared.tuple.Tuple.{Tuple}
 use Rattle.tuples.specs.declared.template.Template.{Template}
 use Rattle.tuples.specs.contracts.field.Field as field_row
-use Rattle.tuples.specs.contracts.place.Place as place-row
-use Rattle.tuples.specs.contracts.tuple.Tuple as tuple-row
-use Rattle.tuples.specs.contracts.template.Template as template-row
+use Rattle.tuples.specs.contracts.place.Place as place_row
+use Rattle.tuples.specs.contracts.tuple.Tuple as tuple_row
+use Rattle.tuples.specs.contracts.template.Template as template_row
 use Rattle.tuples.specs.Values.{same_field, same_place}
 use Rattle.tuples.specs.Tuples.{fields_of, places_of, same_all, same_tuple, same_template}
 use Rattle.std.specs.Cmp.{IsPartialEquivalence}
@@ -57,13 +57,13 @@ pub tuple_told : (s t : Tuple) → fields_of s ≡ fields_of t → s ≡ t
 tuple_told s t e =
     let lens = same-lengths (Num (pos 0)) _ _ _ _ (tuple_padded s) (tuple_padded t) e in
     let all = same_places (Num (pos 0)) _ _ _ _ (tuple_padded s) (tuple_padded t) e in
-    values_one tuple-row.struct (tuple-row.the_propositions (field_row.the_row).coded) s t (λ i. (lens i, (all i, tt)))
+    values_one tuple_row.struct (tuple_row.the_propositions (field_row.the_row).coded) s t (λ i. (lens i, (all i, tt)))
 
 pub template_told : (m n : Template) → places_of m ≡ places_of n → m ≡ n
 template_told m n e =
     let lens = same-lengths (Actual (Num (pos 0))) _ _ _ _ (template_padded m) (template_padded n) e in
     let all = same_places (Actual (Num (pos 0))) _ _ _ _ (template_padded m) (template_padded n) e in
-    values_one template-row.struct (template-row.the_propositions (place-row.the_row).coded) m n (λ i. (lens i, (all i, tt)))
+    values_one template_row.struct (template_row.the_propositions (place_row.the_row).coded) m n (λ i. (lens i, (all i, tt)))
 
 apart : {Q : Type 0} → (Q → ◌≡◌ {A = ℕ} 0 1) → Decides false Q
 apart h = (λ e. absurd (false≢true e), λ q. absurd (let z : ◌≡◌ {A = ℕ} 0 1 = h q in omega arith))

@@ -12,16 +12,16 @@ use Rattle.tuples.specs.declared.field.FieldType.{FieldType}
 use Rattle.tuples.specs.declared.field.FieldType.TheVariants.{Num as NumType, Word as WordType, Site as SiteType}
 use Rattle.tuples.specs.declared.place.Place.{Place}
 use Rattle.tuples.specs.declared.place.Place.TheVariants.{Actual, Formal}
-use Rattle.tuples.specs.contracts.site.Site as site-row
-use Rattle.tuples.specs.contracts.word.Word as word_Row
+use Rattle.tuples.specs.contracts.site.Site as site_row
+use Rattle.tuples.specs.contracts.word.Word as word_row
 use Rattle.tuples.specs.Values.{same_num, same_type, same_field, same_place}
 
 -- a site and a word are their numbers
 pub site-told : (a b : Site) → a.number ≡ b.number → a ≡ b
-site-told a b e = values_one site-row.struct site-row.the_propositions a b (ap (λ n. (n, tt)) e)
+site-told a b e = values_one site_row.struct site_row.the_propositions a b (ap (λ n. (n, tt)) e)
 
 pub word-told : (a b : Word) → a.number ≡ b.number → a ≡ b
-word-told a b e = values_one word_Row.struct word_Row.the_propositions a b (ap (λ n. (n, tt)) e)
+word-told a b e = values_one word_row.struct word_row.the_propositions a b (ap (λ n. (n, tt)) e)
 
 -- a test that decides equality is symmetric and transitive
 pub equivalence : {X : Type 0} (same : X → X → Bool) → ((a b : X) → Decides (same a b) (a ≡ b)) → IsPartialEquivalence same

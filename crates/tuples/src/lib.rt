@@ -1,6 +1,5 @@
-#![tactic(auto)]
-
 //! The values that agents exchange: words, sites, fields, tuples and templates, and matching.
+#![tactic(auto)]
 
 pub mod field;
 pub mod laws;
