@@ -40,4 +40,4 @@ places_in (Reply r t) = actuals t
 -- whether two letters are the same in destination, kind, row and places
 abbrev pub same_letter : Letter → Letter → Bool
 same_letter a b =
-    (a.to.number == b.to.number) && (kind_of a.body == kind_of b.body && (row_of a.body == row_of b.body && same_all same_place (places_in a.body) (places_in b.body)))
+    a.to.number == b.to.number && (kind_of a.body == kind_of b.body && (row_of a.body == row_of b.body && same_all same_place (places_in a.body) (places_in b.body)))

@@ -32,7 +32,7 @@ pub enum Body {
 impl Row for Letter {
     type Question = Site;
 
-    ghost hit = { λ x q. (x.to.number == q.number) };
+    ghost hit = { λ x q. x.to.number == q.number };
 
     fn answers(&self, question: &Site) -> bool {
         self.to == *question

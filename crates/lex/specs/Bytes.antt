@@ -32,7 +32,7 @@ leads class bs = prefix_len (member class) bs
 -- the grammar's signs: ! ( ) , . : ; = @ { | }
 abbrev pub is_mark : ℕ → Bool
 is_mark b =
-    (b == 33) || (b == 40 || (b == 41 || (b == 44 || (b == 46 || (b == 58 || (b == 59 || (b == 61 || (b == 64 || (b == 123 || (b == 124 || b == 125))))))))))
+    b == 33 || (b == 40 || (b == 41 || (b == 44 || (b == 46 || (b == 58 || (b == 59 || (b == 61 || (b == 64 || (b == 123 || (b == 124 || b == 125))))))))))
 
 -- the reserved word that the bytes spell
 abbrev pub reserved : List ℕ → Option Keyword

@@ -37,7 +37,7 @@ variable_tok at bs = let n = leads Alnum (drop 1 bs) in record { kind = Some Var
 
 -- at most 16 plain bytes between two quotes
 abbrev pub is_word : List ℕ → Bool
-is_word bs = let n = leads Plain (drop 1 bs) in (slice_index bs 0 == 34) && (slice_index bs (1 + n) == 34 && nat_le n 16)
+is_word bs = let n = leads Plain (drop 1 bs) in slice_index bs 0 == 34 && (slice_index bs (1 + n) == 34 && nat_le n 16)
 
 -- a word, whose text is what its quotes hold
 abbrev pub word_tok : ℕ → List ℕ → Tok

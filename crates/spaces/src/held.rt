@@ -23,7 +23,7 @@ pub struct Wanted {
 impl Row for Held {
     type Question = Wanted;
 
-    ghost hit = { λ x q. (x.site.number == q.site.number) && matches q.template x.tuple };
+    ghost hit = { λ x q. x.site.number == q.site.number && matches q.template x.tuple };
 
     fn answers(&self, question: &Wanted) -> bool {
         self.site == question.site && question.template.matches(&self.tuple)
