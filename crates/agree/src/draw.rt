@@ -1,6 +1,5 @@
 ghost use Rattle.std.specs.Prelude.{◌<◌};
 
-use anyhow::anyhow;
 use tuples::field::{Field, FieldType};
 use tuples::place::Place;
 use tuples::site::Site;
@@ -36,26 +35,17 @@ impl Draw {
     pub(crate) fn field(&mut self) -> Field {
         let number = self.below(3);
         match self.below(3) {
-            0 => match Word::new(number) {
-                Some(word) => Field::Word(word),
-                None => Field::Num(0),
-            },
-            1 => match Site::new(number) {
-                Some(site) => Field::Site(site),
-                None => Field::Num(0),
-            },
+            0 => Field::Word(Word::new(number).unwrap()),
+            1 => Field::Site(Site::new(number).unwrap()),
             _ => Field::Num(number as i32),
         }
     }
 
     /// A tuple of one or two fields.
-    pub(crate) fn tuple(&mut self) -> anyhow::Result<Tuple> {
+    pub(crate) fn tuple(&mut self) -> Tuple {
         let fields = [self.field(), self.field()];
         let len = 1 + self.below(2);
-        match Tuple::new(&fields[0..len]) {
-            Some(tuple) => Ok(tuple),
-            None => Err(anyhow!("no tuple")),
-        }
+        Tuple::new(&fields[..len]).unwrap()
     }
 
     fn place(&mut self) -> Place {
@@ -68,12 +58,9 @@ impl Draw {
     }
 
     /// A template of one or two places.
-    pub(crate) fn template(&mut self) -> anyhow::Result<Template> {
+    pub(crate) fn template(&mut self) -> Template {
         let places = [self.place(), self.place()];
         let len = 1 + self.below(2);
-        match Template::new(&places[0..len]) {
-            Some(template) => Ok(template),
-            None => Err(anyhow!("no template")),
-        }
+        Template::new(&places[..len]).unwrap()
     }
 }

@@ -1,11 +1,9 @@
 //! Runs one list of questions over both spaces, and one over both carriers, and says whether they agree.
 #![tactic(auto)]
 
-use anyhow::anyhow;
 use carriers::letter::{Body, Letter};
 use carriers::ring_carrier::LetterRing;
 use carriers::tray_carrier::LetterTray;
-use chained::chains::Chains;
 use chained::row::ChainRow;
 use chained::space::ChainedSpace;
 use rings::ring::Ring;
@@ -35,12 +33,8 @@ fn main(rt: HostRuntime) -> anyhow::Result<()> {
 }
 
 fn run(rt: &impl Print) -> anyhow::Result<()> {
-    let Some(site) = Site::new(0) else {
-        return Err(anyhow!("no site 0"));
-    };
-    let Some(tuple) = Tuple::new(&[Field::Num(0)]) else {
-        return Err(anyhow!("no tuple"));
-    };
+    let site = Site::new(0).unwrap();
+    let tuple = Tuple::new(&[Field::Num(0)]).unwrap();
     for limit in [0, 1, 4096] {
         compare_spaces(rt, site, tuple, limit)?;
     }
@@ -55,16 +49,15 @@ fn compare_spaces(rt: &impl Print, site: Site, tuple: Tuple, limit: usize) -> an
     let mut right_rows = [ChainRow::blank(); 4096];
     let rows = limit.min(4096);
     let mut left: HeldTray = Tray::over(&mut left_rows[0..rows]);
-    let mut chains = Chains::over(&mut right_rows[0..rows]);
-    let mut right = ChainedSpace::over(&mut chains);
-    let tally = both_spaces::compare(&mut left, &mut right, TURNS)?;
+    let mut right = ChainedSpace::over(&mut right_rows[0..rows]);
+    let tally = both_spaces::compare(&mut left, &mut right, TURNS);
     println!(rt; "spaces of {limit} rows: {tally}")?;
     if limit < 4096 {
         return Ok(());
     }
-    both_spaces::fill(&mut left)?;
-    both_spaces::fill(&mut right)?;
-    let (in_tray, in_chains) = looked_at(&left, &right)?;
+    both_spaces::fill(&mut left);
+    both_spaces::fill(&mut right);
+    let (in_tray, in_chains) = looked_at(&left, &right);
     println!(rt;
         "rows looked at for {QUESTIONS} questions: {in_tray} in the tray, {in_chains} in the chains"
     )?;
@@ -72,27 +65,22 @@ fn compare_spaces(rt: &impl Print, site: Site, tuple: Tuple, limit: usize) -> an
 }
 
 /// Adds up the rows that each space looks at to find some of the numbers that it is filled with.
-fn looked_at(tray: &HeldTray, chained: &ChainedSpace) -> anyhow::Result<(usize, usize)> {
+fn looked_at(tray: &HeldTray, chained: &ChainedSpace) -> (usize, usize) {
     let mut in_tray: usize = 0;
     let mut in_chains: usize = 0;
     for k in 0..QUESTIONS {
         let number = k * 31 % 4096;
-        let template = template(number)?;
-        let Some(site) = Site::new(number % 32) else {
-            return Err(anyhow!("no site"));
-        };
+        let template = template(number);
+        let site = Site::new(number % 32).unwrap();
         in_tray = in_tray.saturating_add(tray.visits(&Wanted { site, template }));
         in_chains = in_chains.saturating_add(chained.visits(number % 32, &template));
     }
-    Ok((in_tray, in_chains))
+    (in_tray, in_chains)
 }
 
-fn template(number: usize) -> anyhow::Result<Template> {
+fn template(number: usize) -> Template {
     let number = number.min(4096) as i32;
-    match Template::new(&[Place::Actual(Field::Num(number))]) {
-        Some(template) => Ok(template),
-        None => Err(anyhow!("no template")),
-    }
+    Template::new(&[Place::Actual(Field::Num(number))]).unwrap()
 }
 
 fn compare_carriers(rt: &impl Print, to: Site, tuple: Tuple, limit: usize) -> anyhow::Result<()> {
@@ -105,7 +93,7 @@ fn compare_carriers(rt: &impl Print, to: Site, tuple: Tuple, limit: usize) -> an
     let rows = limit.min(256);
     let mut left: LetterTray = Tray::over(&mut left_rows[0..rows]);
     let mut right: LetterRing = Ring::over(&mut right_rows[0..rows]);
-    let tally = both_carriers::compare(&mut left, &mut right, TURNS)?;
+    let tally = both_carriers::compare(&mut left, &mut right, TURNS);
     println!(rt; "carriers of {limit} rows: {tally}")?;
     Ok(())
 }

@@ -1,21 +1,13 @@
 use std::fmt;
 
 /// How many turns were made, and in how many of them the two ends agreed.
-#[derive(Clone, Copy)]
+#[derive(Clone, Copy, Default)]
 pub struct Tally {
     turns: u32,
     agreed: u32,
 }
 
 impl Tally {
-    /// No turn yet.
-    pub(crate) fn new() -> Tally {
-        Tally {
-            turns: 0,
-            agreed: 0,
-        }
-    }
-
     /// Notes one turn more, up to the largest number there is.
     pub(crate) fn note(&mut self, agreed: bool) {
         self.turns = self.turns.saturating_add(1);

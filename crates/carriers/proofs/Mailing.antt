@@ -1,10 +1,10 @@
 -- What the mail gains and loses, by the site that is asked for. Assumes nothing.
-use Rattle.std.proofs.Common.{◌≡◌, ℕ, ◌≤◌, true, false, List, None, Option, sym, refl, ap, ◌∙◌, arith, MatchOption}
+use Rattle.std.proofs.Common.{◌≡◌, ℕ, ◌≤◌, true, false, List, None, Option, sym, ap, ◌∙◌, arith, MatchOption}
 use Rattle.std.proofs.lemmas.Bool.{ne_eqb}
-use Rattle.tuples.specs.declared.site.Site.{Site}
+use Rattle.tuples.specs.Numbers.{Site}
 use Rattle.rows.specs.Bags.{many, Same, Gains}
 use Rattle.rows.specs.Searches.{found, without}
-use Rattle.rows.proofs.Counting.{taken_bag, nothing_found, none_many, none_without}
+use Rattle.rows.proofs.Counting.{taken_bag, nothing_found, none_without}
 use Rattle.carriers.specs.declared.letter.Letter.{Letter}
 use Rattle.carriers.specs.Carriers.{is_for}
 
@@ -24,8 +24,10 @@ fetched s n o xs ys e f w =
     record { after = taken_bag (is_for n) o xs ys f' w'; is_found = f'; is-out = w' }
 
 -- no letter goes to a site that is not one of the 32
-pub fetched_nowhere : (n : ℕ) (xs : List Letter) → 32 ≤ n → Oldest n None xs xs
-fetched_nowhere n xs h =
+pub fetched_nowhere : (n : ℕ) (o : Option Letter) (xs : List Letter) → o ≡ None → 32 ≤ n → Oldest n o xs xs
+fetched_nowhere n o xs e h =
     let far : (l : Letter) → is_for n l ≡ false = λ l. ne_eqb l.to.number n (λ e. omega (arith, l.to.below)) in
-    let none = nothing_found (is_for n) far xs in
-    record { after = (none_many (is_for n) xs none, λ p. refl); is_found = sym none; is-out = sym (none_without (is_for n) xs none) }
+    let none : found (is_for n) xs ≡ None = nothing_found (is_for n) far xs in
+    let f : o ≡ found (is_for n) xs = e ∙ sym none in
+    let w : xs ≡ without (is_for n) xs = sym (none_without (is_for n) xs none) in
+    record { after = taken_bag (is_for n) o xs xs f w; is_found = f; is-out = w }

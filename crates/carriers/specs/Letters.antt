@@ -2,9 +2,8 @@
 use Rattle.std.specs.Prelude.{ℕ, Bool, ◌&&◌, List, [], map, ◌==◌}
 use Rattle.tuples.specs.declared.place.Place.{Place}
 use Rattle.tuples.specs.declared.place.Place.TheVariants.{Actual}
-use Rattle.tuples.specs.declared.tuple.Tuple.{Tuple}
+use Rattle.tuples.specs.Tuples.{Tuple, fields_of, places_of, same_all}
 use Rattle.tuples.specs.Values.{same_place}
-use Rattle.tuples.specs.Tuples.{fields_of, places_of, same_all}
 use Rattle.carriers.specs.declared.letter.Letter.{Letter}
 use Rattle.carriers.specs.declared.letter.Body.{Body}
 use Rattle.carriers.specs.declared.letter.Body.TheVariants.{Goods, Mover, InRequest, ReadRequest, Reply}

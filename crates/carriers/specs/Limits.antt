@@ -8,7 +8,7 @@ use Rattle.carriers.specs.declared.letter.Letter.{Letter}
 use Rattle.carriers.specs.Carriers.{Limited}
 
 pub tray_limited : (t : Tray Letter 256) → Limited (tray.listed t) (tray.room t)
-tray_limited t = record { fits = omega (arith, length-take (tray.filled t) t.rows.now); most = omega arith }
+tray_limited t = record { fits = omega (arith, length-take t.used t.rows.now, t.fits); most = omega arith }
 
 pub ring_limited : (r : Ring Letter 256) → Limited (ring.listed r) (ring.room r)
-ring_limited r = record { fits = omega (arith, length-take (ring.filled r) (ring.circle r r.rows.now)); most = omega arith }
+ring_limited r = record { fits = omega (arith, length-take r.used (ring.circle r r.rows.now), r.fits); most = omega arith }

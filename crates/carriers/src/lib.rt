@@ -4,6 +4,7 @@
 pub mod carrier;
 pub mod laws;
 pub mod letter;
+pub mod mailbag;
 pub mod ring_carrier;
 pub mod thread_row;
 pub mod tray_carrier;

@@ -1,18 +1,20 @@
 -- The tuples of a list of rows, and what a search finds among them. Assumes nothing.
-use Rattle.std.proofs.Common.{◌≡◌, ℕ, zero, suc, ◌+◌, ◌<◌, ◌≤◌, Bool, true, false, cond, eqb, List, [], ◌∷◌, ◌++◌, length, Some, None, Option, sym, refl, ap, ◌∙◌, append_assoc, arith, length-append}
-use Rattle.std.specs.List.{slice_get}
-use Rattle.std.specs.Option.{option_to_list}
+use Rattle.std.proofs.Common.{◌≡◌, ℕ, ◌+◌, ◌<◌, Bool, true, false, cond, eqb, List, [], ◌∷◌, ◌++◌, map, length, Some, None, Option, sym, refl, ap, ◌∙◌, inl, inr, append_assoc, arith, length-append, Bor, MatchOption}
+use Rattle.std.specs.List.{cons_option, find, filter, position}
+use Rattle.std.specs.Option.{option_to_list, option_map}
+use Rattle.std.proofs.lemmas.List.{length-map}
+use Rattle.std.proofs.lemmas.Option.{slice_get_cases}
 use Rattle.std.proofs.lemmas.Bool.{eq-eqb, ne_eqb, cond-true, cond-false, both_ways}
-use Rattle.tuples.specs.declared.tuple.Tuple.{Tuple}
-use Rattle.tuples.specs.declared.template.Template.{Template}
+use Rattle.tuples.specs.Tuples.{Tuple, Template}
 use Rattle.tuples.specs.Matching.{matches}
 use Rattle.rows.specs.Bags.{once, many}
 use Rattle.rows.specs.Searches.{found, without, visited}
-use Rattle.rows.proofs.Counting.{found-passes}
+use Rattle.rows.proofs.Counting.{found-passes, many-map}
 use Rattle.chained.specs.declared.row.ChainRow.{ChainRow}
-use Rattle.chained.specs.Links.{tuple_in, tuple_of, tuples_at}
+use Rattle.chained.specs.Links.{tuple_in, tuple_of, tuples_at, numbered, told}
 use Rattle.chained.specs.Steps.{matches_in, matches_at}
 use Rattle.chained.proofs.Trails.{times, once-self}
+use Rattle.chained.proofs.Searching.{found-find, many-filter, visited_from_position, found_step, found-map, visited-map}
 
 -- the search for the first that passes finds an element of the list
 module _ (p : ℕ → Bool) where
@@ -38,36 +40,56 @@ module _ (rows : List ChainRow) where
   tuples-append [] js = refl
   tuples-append (i ∷ is) js = ap (λ ts. option_to_list (tuple_of rows i) ++ ts) (tuples-append is js) ∙ sym (append_assoc (option_to_list (tuple_of rows i)) (tuples_at rows is) (tuples_at rows js))
 
-  one_there : (o : Option ChainRow) → (o ≡ None → ⊥) → length (option_to_list (tuple_in o)) ≡ 1
-  one_there None h = absurd (h refl)
-  one_there (Some x) h = refl
-
-  past_length : (i : ℕ) (xs : List ChainRow) → slice_get xs i ≡ None → length xs ≤ i
-  past_length i [] e = omega arith
-  past_length zero (x ∷ xs) e = absurd (let z : ◌≡◌ {A = ℕ} 0 1 = cc in omega arith)
-  past_length (suc i) (x ∷ xs) e = omega (arith, past_length i xs e)
-
   pub tuples-length : (is : List ℕ) → ((j : ℕ) → 0 < times j is → j < length rows) → length (tuples_at rows is) ≡ length is
   tuples-length [] h = refl
   tuples-length (i ∷ is) h =
-      let there : length (option_to_list (tuple_of rows i)) ≡ 1 = one_there (slice_get rows i) (λ e. omega (arith, past_length i rows e, h i (omega (arith, once-self i i refl)))) in
+      let there : length (option_to_list (tuple_of rows i)) ≡ 1 = elim (slice_get_cases rows i).1 [
+        | inl x ↦ ap (λ o. length (option_to_list (tuple_in o))) x.2
+        | inr x ↦ absurd (omega (arith, x.0, h i (omega (arith, once-self i i refl))))
+      ] in
       omega (arith, length-append (option_to_list (tuple_of rows i)) (tuples_at rows is), there, tuples-length is (λ j b. h j (omega (arith, b))))
 
+  -- numbered rows without their numbers
+  tuples_step : (o : Option Tuple) (i : ℕ) (is : List ℕ) → map (λ x. x.1) (numbered rows is) ≡ tuples_at rows is → map (λ x. x.1) (cons_option (option_map (λ t. (i, t)) o) (numbered rows is)) ≡ option_to_list o ++ tuples_at rows is
+  tuples_step None i is more = more
+  tuples_step (Some t) i is more = ap (λ ts. t ∷ ts) more
+
+  pub numbered-tuples : (is : List ℕ) → map (λ x. x.1) (numbered rows is) ≡ tuples_at rows is
+  numbered-tuples [] = refl
+  numbered-tuples (i ∷ is) = tuples_step (tuple_of rows i) i is (numbered-tuples is)
+
+  pub numbered-length : (is : List ℕ) → ((j : ℕ) → 0 < times j is → j < length rows) → length (numbered rows is) ≡ length is
+  numbered-length is h = sym (length-map (numbered rows is) (λ x. x.1)) ∙ ap length (numbered-tuples is) ∙ tuples-length is h
+
   module _ (m : Template) where
-    -- the tuple of the row that was found
-    abbrev pub tuple_found : Option ℕ → Option Tuple
-    tuple_found None = None
-    tuple_found (Some i) = tuple_of rows i
+    numbered_found : (o : Option Tuple) (i : ℕ) (is : List ℕ) → option_map (λ x. x.0) (found (λ x. matches m x.1) (numbered rows is)) ≡ found (matches_at rows m) is → option_map (λ x. x.0) (found (λ x. matches m x.1) (cons_option (option_map (λ t. (i, t)) o) (numbered rows is))) ≡ cond (matches_in m o) (Some i) (found (matches_at rows m) is)
+    numbered_found None i is more = more
+    numbered_found (Some t) i is more = found_step (λ x. x.0) (matches m t) (i, t) (found (λ x. matches m x.1) (numbered rows is)) (found (matches_at rows m) is) more
 
-    found_tests : (o : Option Tuple) (i : ℕ) (is : List ℕ) (b : Bool) → tuple_of rows i ≡ o → matches_in m o ≡ b → found (matches m) (tuples_at rows is) ≡ tuple_found (found (matches_at rows m) is) → found (matches m) (option_to_list o ++ tuples_at rows is) ≡ tuple_found (cond b (Some i) (found (matches_at rows m) is))
-    found_tests None i is true e t more = absurd (let z : ◌≡◌ {A = ℕ} 0 1 = ap once t in omega arith)
-    found_tests None i is false e t more = more
-    found_tests (Some x) i is true e t more = cond-true (matches m x) (Some x) _ t ∙ sym e
-    found_tests (Some x) i is false e t more = cond-false (matches m x) (Some x) _ t ∙ more
+    -- the row that a search of numbered rows finds
+    pub numbered-found : (is : List ℕ) → option_map (λ x. x.0) (found (λ x. matches m x.1) (numbered rows is)) ≡ found (matches_at rows m) is
+    numbered-found [] = refl
+    numbered-found (i ∷ is) = numbered_found (tuple_of rows i) i is (numbered-found is)
 
-    pub tuples-found : (is : List ℕ) → found (matches m) (tuples_at rows is) ≡ tuple_found (found (matches_at rows m) is)
-    tuples-found [] = refl
-    tuples-found (i ∷ is) = found_tests (tuple_of rows i) i is (matches_at rows m i) refl refl (tuples-found is)
+    -- what the library's words for finding, counting and telling the place say of numbered rows
+    pub find_numbered : (is : List ℕ) (o : Option (ℕ × Bor Tuple)) → option_map told o ≡ find (λ x. matches m x.1) (numbered rows is) → (option_map (λ x. x.0) o ≡ found (matches_at rows m) is) × (option_map (λ x. x.1.now) o ≡ found (matches m) (tuples_at rows is))
+    find_numbered is o e =
+        let all : option_map told o ≡ found (λ x. matches m x.1) (numbered rows is) = e ∙ found-find (λ x. matches m x.1) (numbered rows is) in
+        (parts o ∙ ap (option_map (λ x. x.0)) all ∙ numbered-found is, tuple_part o ∙ ap (option_map (λ x. x.1)) all ∙ found-map (λ x. x.1) (matches m) (numbered rows is) ∙ ap (found (matches m)) (numbered-tuples is))
+      where
+        parts : (o : Option (ℕ × Bor Tuple)) → option_map (λ x. x.0) o ≡ option_map (λ x. x.0) (option_map told o)
+        parts None = refl
+        parts (Some x) = refl
+
+        tuple_part : (o : Option (ℕ × Bor Tuple)) → option_map (λ x. x.1.now) o ≡ option_map (λ x. x.1) (option_map told o)
+        tuple_part None = refl
+        tuple_part (Some x) = refl
+
+    pub count_numbered : (is : List ℕ) → length (filter (λ x. matches m x.1) (numbered rows is)) ≡ many (matches m) (tuples_at rows is)
+    count_numbered is = many-filter (λ x. matches m x.1) (numbered rows is) ∙ sym (many-map (λ x. x.1) (matches m) (numbered rows is)) ∙ ap (many (matches m)) (numbered-tuples is)
+
+    pub visits_numbered : (is : List ℕ) (o : Option ℕ) (r : ℕ) → o ≡ position (λ x. matches m x.1) (numbered rows is) → MatchOption o (r ≡ length (numbered rows is)) (λ i. r ≡ i + 1) → r ≡ visited (matches m) (tuples_at rows is)
+    visits_numbered is o r e h = visited_from_position (λ x. matches m x.1) (numbered rows is) o r e h ∙ visited-map (λ x. x.1) (matches m) (numbered rows is) ∙ ap (visited (matches m)) (numbered-tuples is)
 
     without_tests : (o : Option Tuple) (i : ℕ) (is : List ℕ) (b : Bool) → tuple_of rows i ≡ o → matches_in m o ≡ b → tuples_at rows (without (matches_at rows m) is) ≡ without (matches m) (tuples_at rows is) → tuples_at rows (cond b is (i ∷ without (matches_at rows m) is)) ≡ without (matches m) (option_to_list o ++ tuples_at rows is)
     without_tests None i is true e t more = absurd (let z : ◌≡◌ {A = ℕ} 0 1 = ap once t in omega arith)
@@ -78,22 +100,6 @@ module _ (rows : List ChainRow) where
     pub tuples-without : (is : List ℕ) → tuples_at rows (without (matches_at rows m) is) ≡ without (matches m) (tuples_at rows is)
     tuples-without [] = refl
     tuples-without (i ∷ is) = without_tests (tuple_of rows i) i is (matches_at rows m i) refl refl (tuples-without is)
-
-    many_tests : (o : Option Tuple) (n : ℕ) (ts : List Tuple) → n ≡ many (matches m) ts → once (matches_in m o) + n ≡ many (matches m) (option_to_list o ++ ts)
-    many_tests None n ts e = omega (arith, e)
-    many_tests (Some x) n ts e = omega (arith, e)
-
-    pub tuples-many : (is : List ℕ) → many (matches_at rows m) is ≡ many (matches m) (tuples_at rows is)
-    tuples-many [] = refl
-    tuples-many (i ∷ is) = many_tests (tuple_of rows i) (many (matches_at rows m) is) (tuples_at rows is) (tuples-many is)
-
-    visited_tests : (o : Option ChainRow) (n : ℕ) (ts : List Tuple) → (o ≡ None → ⊥) → n ≡ visited (matches m) ts → 1 + cond (matches_in m (tuple_in o)) 0 n ≡ visited (matches m) (option_to_list (tuple_in o) ++ ts)
-    visited_tests None n ts some e = absurd (some refl)
-    visited_tests (Some x) n ts some e = ap (λ k. 1 + cond (matches m x.tuple) 0 k) e
-
-    pub tuples-visited : (is : List ℕ) → ((j : ℕ) → 0 < times j is → j < length rows) → visited (matches_at rows m) is ≡ visited (matches m) (tuples_at rows is)
-    tuples-visited [] h = refl
-    tuples-visited (i ∷ is) h = visited_tests (slice_get rows i) (visited (matches_at rows m) is) (tuples_at rows is) (λ e. omega (arith, past_length i rows e, h i (omega (arith, once-self i i refl)))) (tuples-visited is (λ j b. h j (omega (arith, b))))
 
 -- rows whose tuples are kept
 pub tuples-same : (rows new : List ChainRow) (is : List ℕ) → ((j : ℕ) → 0 < times j is → tuple_of new j ≡ tuple_of rows j) → tuples_at new is ≡ tuples_at rows is

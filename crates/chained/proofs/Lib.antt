@@ -4,6 +4,7 @@ pub mod Chaining
 pub mod Totals
 pub mod Linking
 pub mod Moving
+pub mod Searching
 pub mod Walking
 pub mod Freeing
 pub mod Holding

@@ -6,8 +6,8 @@ use Rattle.rows.specs.Searches.{without}
 use Rattle.rows.proofs.Counting.{many-append}
 use Rattle.chained.specs.declared.row.ChainRow.{ChainRow}
 use Rattle.chained.specs.declared.ends.Ends.{Ends}
-use Rattle.chained.specs.Links.{forward, ends_of, rows_of, room_for, upto, total, BothWays, BeyondKept, TuplesKept}
-use Rattle.chained.specs.Steps.{Single, Inside, Sound, LinksKept, Moved}
+use Rattle.chained.specs.Links.{forward, ends_of, rows_of, room_for, upto, total, BothWays, Kept}
+use Rattle.chained.specs.Steps.{Single, Inside, SoundChain, Sound, LinksKept, Moved}
 use Rattle.chained.proofs.Trails.{times, once-self, in_apart}
 use Rattle.chained.proofs.Chaining.{times_without}
 use Rattle.chained.proofs.Totals.{total_le, total_two, total_moved, many-upto}
@@ -32,6 +32,9 @@ module _ (rows : List ChainRow) (ends : List Ends) (sound : Sound rows ends) whe
         absurd (omega (arith, total_le 33 c (λ d. times k (rows_of rows ends d)) l, times_all k, none, h))
   ]
 
+  pub sound_chain : (c : ℕ) → c < 33 → SoundChain rows (ends_of ends c)
+  sound_chain c l = record { both = sound.both c l; single = chain_single c l; inside = chain_inside c l }
+
   pub chains_apart : (c d : ℕ) → c < 33 → d < 33 → (d ≡ c → ⊥) → (k : ℕ) → 0 < times k (rows_of rows ends c) → times k (rows_of rows ends d) ≡ 0
   chains_apart c d lc ld ne k h = omega (arith, total_two 33 c d (λ b. times k (rows_of rows ends b)) lc ld ne, times_all k, once_le (ltb k (room_for rows)))
 
@@ -46,14 +49,12 @@ module _ (rows : List ChainRow) (ends : List Ends) (sound : Sound rows ends) whe
     pub to_kept : forward mid (ends_of ends to) ≡ rows_of rows ends to
     to_kept = forward_kept rows mid (ends_of ends to) (sound.both to lt) (λ j h. out j (from_to j h))
 
-    pub to_both : BothWays mid (ends_of ends to)
-    to_both = both_kept rows mid (ends_of ends to) (sound.both to lt) (λ j h. out j (from_to j h))
-
-    pub to_single : Single mid (ends_of ends to)
-    to_single k = let e : times k (forward mid (ends_of ends to)) ≡ times k (rows_of rows ends to) = ap (times k) to_kept in omega (arith, e, chain_single to lt k)
-
-    pub to_inside : length mid ≡ length rows → Inside mid (ends_of ends to)
-    to_inside len k h = let e : times k (forward mid (ends_of ends to)) ≡ times k (rows_of rows ends to) = ap (times k) to_kept in omega (arith, len, chain_inside to lt k (omega (arith, e, h)))
+    pub to_chain : length mid ≡ length rows → SoundChain mid (ends_of ends to)
+    to_chain len = record {
+      both = both_kept rows mid (ends_of ends to) (sound.both to lt) (λ j h. out j (from_to j h));
+      single = λ k. omega (arith, ap (times k) to_kept, chain_single to lt k);
+      inside = λ k h. omega (arith, len, chain_inside to lt k (omega (arith, ap (times k) to_kept, h)));
+    }
 
     to_alone_before : times at (rows_of rows ends to) ≡ 0
     to_alone_before = chains_apart from to lf lt ne at here
@@ -138,8 +139,8 @@ module _ (rows : List ChainRow) (ends : List Ends) (sound : Sound rows ends) whe
           total_shared : (k : ℕ) → times k (rows_of new (set (set ends from left) to joined) from) + once (eqb k at) ≡ times k (rows_of rows ends from) → times k (rows_of new (set (set ends from left) to joined) to) ≡ times k (rows_of rows ends to) + once (eqb k at) → total 33 (λ c. times k (rows_of new (set (set ends from left) to joined) c)) ≡ total 33 (λ c. times k (rows_of rows ends c))
           total_shared k less plus = total_moved 33 from to (λ c. times k (rows_of rows ends c)) (λ c. times k (rows_of new (set (set ends from left) to joined) c)) (once (eqb k at)) lf lt ne (λ c l f t. ap (times k) (rows_other c l f t)) less plus
 
-      pub moved : TuplesKept rows new → BeyondKept rows new → Moved rows ends new (set (set ends from left) to joined) from at to
-      moved tuples beyond =
+      pub moved : Kept rows new → Moved rows ends new (set (set ends from left) to joined) from at to
+      moved kept =
           let less : (ends_of (set (set ends from left) to joined) from).many + 1 ≡ (ends_of ends from).many = ap (λ e. e.many + 1) at_from ∙ fewer in
           let plus : (ends_of (set (set ends from left) to joined) to).many ≡ (ends_of ends to).many + 1 = ap (λ e. e.many) at_to ∙ more in
           record {
@@ -155,6 +156,5 @@ module _ (rows : List ChainRow) (ends : List Ends) (sound : Sound rows ends) whe
             fewer = less;
             more = plus;
             others = at_other;
-            tuples = tuples;
-            beyond = beyond;
+            kept = kept;
           }

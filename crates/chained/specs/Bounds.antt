@@ -4,7 +4,7 @@ use Rattle.std.proofs.Common.{ap, arith, length-append}
 use Rattle.std.specs.Option.{option_to_list}
 use Rattle.std.proofs.lemmas.List.{length-map}
 use Rattle.std.proofs.lemmas.Bool.{lt-leb}
-use Rattle.tuples.specs.declared.tuple.Tuple.{Tuple}
+use Rattle.tuples.specs.Tuples.{Tuple}
 use Rattle.rows.specs.Bags.{once, many}
 use Rattle.rows.proofs.Counting.{many-append}
 use Rattle.spaces.specs.Spaces.{Bounded, at}
@@ -47,7 +47,7 @@ more g n = omega arith
 
 pub chained_bounded : (s : ChainedSpace) → Bounded (held_in s) (room_in s)
 chained_bounded s = record {
-  fits = omega (arith, bag-at-most (chains_of s) 32, more (λ c. (ends_of (chains_of s).ends c).many) 32, (chains_of s).all);
+  fits = omega (arith, bag-at-most (chains_of s) 32, more (λ c. (ends_of (chains_of s).ends c).many) 32, (chains_of s).sound.all);
   most = omega arith;
   sited = bag-sited (chains_of s) 32 (omega arith);
 }

@@ -1,6 +1,6 @@
 -- What a chained space holds as a space. Assumes nothing.
 use Rattle.std.specs.Prelude.{ℕ, List}
-use Rattle.tuples.specs.declared.tuple.Tuple.{Tuple}
+use Rattle.tuples.specs.Tuples.{Tuple}
 use Rattle.spaces.specs.Spaces.{Located}
 use Rattle.chained.specs.declared.row.ChainRow.{ChainRow}
 use Rattle.chained.specs.declared.chains.Chains.{Chains}
@@ -9,7 +9,7 @@ use Rattle.chained.specs.Chains.{memory, tuples_of, bag, rows_in}
 
 -- the chains of a space
 abbrev pub chains_of : ChainedSpace → Chains
-chains_of s = s.chains.now
+chains_of s = s.chains
 
 -- what lies at site c of a space, oldest put first; nothing where there is no such site
 abbrev pub chain_of : ChainedSpace → ℕ → List Tuple

@@ -1,6 +1,6 @@
 -- What the chains of a memory hold. Assumes nothing.
-use Rattle.std.specs.Prelude.{ℕ, cond, List, [], map, nat_lt}
-use Rattle.tuples.specs.declared.tuple.Tuple.{Tuple}
+use Rattle.std.specs.Prelude.{◌≡◌, ℕ, cond, List, [], map, nat_lt}
+use Rattle.tuples.specs.Tuples.{Tuple}
 use Rattle.spaces.specs.Spaces.{Located, at}
 use Rattle.chained.specs.declared.row.ChainRow.{ChainRow}
 use Rattle.chained.specs.declared.chains.Chains.{Chains}
@@ -29,3 +29,8 @@ tuples_of s c = cond (nat_lt c 32) (chain_in s c) []
 -- the copies of tuples at the 32 sites
 abbrev pub bag : Chains → List Located
 bag s = upto 32 (λ c. map (at c) (tuples_of s c))
+
+-- the same memory is lent, and as many of its rows are linked
+pub record SameMemory (old new : Chains) : Type 0 where
+  pub lent : new.rows.ghost_name ≡ old.rows.ghost_name
+  pub fixed : rows_in new ≡ rows_in old

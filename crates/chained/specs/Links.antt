@@ -1,8 +1,9 @@
 -- Rows that lead to one another, and the chains that they make. Assumes nothing.
 use Rattle.std.specs.Prelude.{◌≡◌, ℕ, zero, suc, ◌+◌, ◌≤◌, min, cond, List, [], ◌∷◌, ◌++◌, reverse, length, Some, None, Option, ◌==◌, nat_eq, nat_lt, slice_index_or}
-use Rattle.std.specs.List.{slice_get}
-use Rattle.std.specs.Option.{option_to_list}
-use Rattle.tuples.specs.declared.tuple.Tuple.{Tuple}
+use Rattle.std.specs.List.{slice_get, filter_map}
+use Rattle.std.specs.Option.{option_to_list, option_map}
+use denote.Ref.{Bor}
+use Rattle.tuples.specs.Tuples.{Tuple}
 use Rattle.rows.specs.Bags.{once, many}
 use Rattle.chained.specs.declared.row.ChainRow.{ChainRow}
 use Rattle.chained.specs.declared.ends.Ends.{Ends}
@@ -47,6 +48,14 @@ backward rows e = trail (prev_of rows) e.many e.last
 abbrev pub tuples_at : List ChainRow → List ℕ → List Tuple
 tuples_at rows [] = []
 tuples_at rows (i ∷ is) = option_to_list (tuple_of rows i) ++ tuples_at rows is
+
+-- some rows, each told by its number and its tuple
+abbrev pub numbered : List ChainRow → List ℕ → List (ℕ × Tuple)
+numbered rows is = filter_map (λ i. option_map (λ t. (i, t)) (tuple_of rows i)) is
+
+-- what a number and a lent tuple tell
+abbrev pub told : ℕ × Bor Tuple → ℕ × Tuple
+told x = (x.0, x.1.now)
 
 -- the ends of chain c; a chain that there is not has no rows
 abbrev pub ends_of : List Ends → ℕ → Ends
@@ -93,3 +102,8 @@ TupleStored old new at t = (i : ℕ) → tuple_of new i ≡ cond (i == at) (Some
 -- two memories agree in every row from row 4096 on
 abbrev pub BeyondKept : List ChainRow → List ChainRow → Type 0
 BeyondKept old new = (i : ℕ) → 4096 ≤ i → slice_get new i ≡ slice_get old i
+
+-- two memories hold the same tuples, and agree in every row from row 4096 on
+pub record Kept (old new : List ChainRow) : Type 0 where
+  pub tuples : TuplesKept old new
+  pub beyond : BeyondKept old new

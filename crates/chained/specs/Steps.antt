@@ -1,13 +1,12 @@
 -- The steps by which a row goes from one chain to another, and a search along a chain. Assumes nothing.
 use Rattle.std.specs.Prelude.{◌≡◌, ℕ, ◌+◌, ◌<◌, ◌≤◌, Bool, false, cond, List, [], ◌∷◌, ◌++◌, length, Some, None, Option, ◌==◌, ◌≢◌, nat_eq}
-use Rattle.tuples.specs.declared.tuple.Tuple.{Tuple}
-use Rattle.tuples.specs.declared.template.Template.{Template}
+use Rattle.tuples.specs.Tuples.{Tuple, Template}
 use Rattle.tuples.specs.Matching.{matches}
 use Rattle.rows.specs.Bags.{many}
 use Rattle.rows.specs.Searches.{without}
 use Rattle.chained.specs.declared.row.ChainRow.{ChainRow}
 use Rattle.chained.specs.declared.ends.Ends.{Ends}
-use Rattle.chained.specs.Links.{next_of, prev_of, tuple_of, forward, ends_of, rows_of, room_for, EachOnce, AllCounted, BothWays, TuplesKept, BeyondKept}
+use Rattle.chained.specs.Links.{next_of, prev_of, tuple_of, forward, ends_of, rows_of, room_for, EachOnce, AllCounted, BothWays, Kept}
 
 -- f, but that i leads to j
 abbrev pub led : (ℕ → ℕ) → ℕ → ℕ → ℕ → ℕ
@@ -29,6 +28,12 @@ Single rows e = (k : ℕ) → many (nat_eq k) (forward rows e) ≤ 1
 -- a chain has linked rows only
 abbrev pub Inside : List ChainRow → Ends → Type 0
 Inside rows e = (k : ℕ) → 0 < many (nat_eq k) (forward rows e) → k < room_for rows
+
+-- a chain of linked rows, none of them twice, that can be read both ways
+pub record SoundChain (rows : List ChainRow) (e : Ends) : Type 0 where
+  pub both : BothWays rows e
+  pub single : Single rows e
+  pub inside : Inside rows e
 
 -- the 33 chains of a memory are in order
 pub record Sound (rows : List ChainRow) (ends : List Ends) : Type 0 where
@@ -55,5 +60,4 @@ pub record Moved (old : List ChainRow) (old_ends : List Ends) (new : List ChainR
   pub fewer : (ends_of new_ends from).many + 1 ≡ (ends_of old_ends from).many
   pub more : (ends_of new_ends to).many ≡ (ends_of old_ends to).many + 1
   pub others : (c : ℕ) → (c ≢ from) → (c ≢ to) → ends_of new_ends c ≡ ends_of old_ends c
-  pub tuples : TuplesKept old new
-  pub beyond : BeyondKept old new
+  pub kept : Kept old new

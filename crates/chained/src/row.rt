@@ -20,13 +20,10 @@ impl ChainRow {
         ensures next { result.next ≡ 0 }
         ensures prev { result.prev ≡ 0 }
     {
-        match Tuple::new(&[Field::Num(0)]) {
-            Some(tuple) => ChainRow {
-                tuple,
-                next: 0,
-                prev: 0,
-            },
-            None => unreachable(),
+        ChainRow {
+            tuple: Tuple::new(&[Field::Num(0)]).unwrap(),
+            next: 0,
+            prev: 0,
         }
     }
 }

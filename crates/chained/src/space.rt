@@ -1,4 +1,4 @@
-ghost use Rattle.std.specs.Prelude.{◌≡◌, ℕ, ◌<◌, true, [], ◌∷◌, ◌++◌, length, MatchOption, MatchResult, ◌≢◌};
+ghost use Rattle.std.specs.Prelude.{◌≡◌, ℕ, ◌<◌, min, true, [], ◌∷◌, ◌++◌, length, MatchOption, MatchResult, ◌≢◌};
 ghost use Rattle.tuples.specs.Matching.{matches};
 ghost use Rattle.rows.specs.Bags.{many, Same, Gains};
 ghost use Rattle.rows.specs.Searches.{found, without, visited};
@@ -10,40 +10,47 @@ ghost use Rattle.chained.specs.Bounds.{chained_bounded};
 ghost use Rattle.chained.specs.ChainedSpaces.{chains_of, chain_of, memory_of, held_in, room_in};
 
 use crate::chains::Chains;
+use crate::row::ChainRow;
 use spaces::space::{PutRefusal, Space};
+use tuples::site::Site;
 use tuples::template::Template;
 use tuples::tuple::Tuple;
 
-const SITES: usize = 32;
-
 /// A tuple space over chains of rows of the caller's memory.
 #[derive(Drop)]
-pub struct ChainedSpace<'c, 'a> {
-    chains: &'c mut Chains<'a>,
+pub struct ChainedSpace<'a> {
+    chains: Chains<'a>,
 }
 
-impl<'c, 'a> ChainedSpace<'c, 'a> {
-    /// The space of what the chains hold.
-    pub fn over(chains: &'c mut Chains<'a>) -> ChainedSpace<'c, 'a>
-        ensures chains { result.chains.now ≡ chains.old }
-        ensures lent { result.chains.ghost_name ≡ chains.entry.ghost_name }
+impl<'a> ChainedSpace<'a> {
+    /// The empty space over rows of the caller's memory, whatever they hold.
+    pub fn over(rows: &'a mut [ChainRow]) -> ChainedSpace<'a>
+        ensures empty { held_in result ≡ [] }
+        ensures room { room_in result ≡ min (length rows.old) 4096 }
+        ensures chains { (c : ℕ) → chain_of result c ≡ [] }
+        ensures tuples { TuplesKept rows.old (memory_of result) }
+        ensures beyond { BeyondKept rows.old (memory_of result) }
+        ensures lent { (chains_of result).rows.ghost_name ≡ rows.entry.ghost_name }
     {
-        ChainedSpace { chains }
+        ChainedSpace {
+            chains: Chains::over(rows),
+        }
     }
 
     /// How many rows a take or a peek looks at: those of the site's chain up to the first that matches, or all of them.
     pub fn visits(&self, site: usize, template: &Template) -> usize
         ensures { result ≡ visited (matches template.now) (chain_of self.now site) }
     {
-        if site >= SITES {
+        // No `map_or`: of a closure that calls the chains the check infers no result.
+        let Some(site) = Site::new(site) else {
             return 0;
-        }
+        };
         self.chains.visits(site, template)
     }
 }
 
 /// Of the tuples at a site that a template matches, the one that was put first is taken and peeked at.
-impl<'c, 'a> Space for ChainedSpace<'c, 'a> {
+impl<'a> Space for ChainedSpace<'a> {
     ghost held = { λ s. held_in s };
 
     ghost room = { λ s. room_in s };
@@ -79,14 +86,9 @@ impl<'c, 'a> Space for ChainedSpace<'c, 'a> {
         ensures beyond { BeyondKept (memory_of self.old) (memory_of self.new) }
         ensures lent { (chains_of self.new).rows.ghost_name ≡ (chains_of self.old).rows.ghost_name }
     {
-        if site >= SITES {
-            return Err(PutRefusal::NoSuchSite);
-        }
-        if self.chains.put(site, tuple) {
-            Ok(())
-        } else {
-            Err(PutRefusal::Full)
-        }
+        let site = Site::new(site).ok_or(PutRefusal::NoSuchSite)?;
+        self.chains.put(site, tuple)?;
+        Ok(())
     }
 
     fn take(&mut self, site: usize, template: &Template) -> Option<Tuple>
@@ -99,29 +101,24 @@ impl<'c, 'a> Space for ChainedSpace<'c, 'a> {
         ensures beyond { BeyondKept (memory_of self.old) (memory_of self.new) }
         ensures lent { (chains_of self.new).rows.ghost_name ≡ (chains_of self.old).rows.ghost_name }
     {
-        if site >= SITES {
-            return None;
-        }
-        self.chains.take(site, template)
+        self.chains.take(Site::new(site)?, template)
     }
 
     fn peek(&self, site: usize, template: &Template) -> Option<Tuple>
         ensures some { MatchOption result (many (hits site template.now) (held_in self.now) ≡ 0) (λ t. (matches template.now t ≡ true) × (0 < copies (held_in self.now) site t)) }
         ensures first { result ≡ found (matches template.now) (chain_of self.now site) }
     {
-        if site >= SITES {
-            return None;
-        }
-        self.chains.peek(site, template)
+        self.chains.peek(Site::new(site)?, template)
     }
 
     fn count(&self, site: usize, template: &Template) -> usize
         ensures hits { result ≡ many (hits site template.now) (held_in self.now) }
         ensures chain { result ≡ many (matches template.now) (chain_of self.now site) }
     {
-        if site >= SITES {
+        // No `map_or`: of a closure that calls the chains the check infers no result.
+        let Some(site) = Site::new(site) else {
             return 0;
-        }
+        };
         self.chains.count(site, template)
     }
 }

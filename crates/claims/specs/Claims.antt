@@ -1,13 +1,11 @@
 -- What a claim on a sheet is. Assumes nothing.
 use Rattle.std.specs.Prelude.{◌≡◌, [], ◌∷◌, ℤ}
-use Rattle.tuples.specs.declared.word.Word.{Word}
+use Rattle.tuples.specs.Numbers.{Word}
 use Rattle.tuples.specs.declared.field.Field.{Field}
 use Rattle.tuples.specs.declared.field.Field.TheVariants.{Num, Word as Named}
 use Rattle.tuples.specs.declared.place.Place.{Place}
 use Rattle.tuples.specs.declared.place.Place.TheVariants.{Actual}
-use Rattle.tuples.specs.declared.tuple.Tuple.{Tuple}
-use Rattle.tuples.specs.declared.template.Template.{Template}
-use Rattle.tuples.specs.Tuples.{fields_of, places_of}
+use Rattle.tuples.specs.Tuples.{Tuple, Template, fields_of, places_of}
 
 -- the word "free", which has number 0
 abbrev pub Free : Field → Type 0

@@ -1,8 +1,6 @@
-ghost use Rattle.std.specs.Prelude.{IfOk};
 ghost use Rattle.claims.specs.Claims.{Free, Claim, Sought};
 
 use crate::contend::contend;
-use anyhow::anyhow;
 use spaces::space::{PutRefusal, Space};
 use tuples::field::{Field, FieldType};
 use tuples::place::Place;
@@ -25,51 +23,40 @@ pub(crate) fn run<S: Space>(rt: &impl Print, space: &mut S) -> anyhow::Result<()
         space.size()
     )?;
     for sheet in 7..10 {
-        let claim = claim(sheet)?;
+        let claim = claim(sheet);
         offer(rt, space, REGISTRY, claim)?;
     }
     let seven = Place::Actual(Field::Num(7));
-    let wanted = template(seven)?;
+    let wanted = template(seven);
     println!(rt; "{wanted} matches {} claim", space.count(REGISTRY, &wanted))?;
     let (first, second) = contend(space, REGISTRY, &wanted);
     tell(rt, "the first agent", first)?;
     tell(rt, "the second agent", second)?;
-    let any = template(Place::Formal(FieldType::Num))?;
+    let any = template(Place::Formal(FieldType::Num));
     tell(rt, "a reader of any claim", space.peek(REGISTRY, &any))?;
     fill(rt, space)?;
     give_back(rt, space, &any, first)
 }
 
 /// The claim on a sheet: the word "free" and the sheet's number.
-fn claim(sheet: i32) -> anyhow::Result<Tuple>
-    ensures { IfOk result (λ t. Claim sheet t) }
+fn claim(sheet: i32) -> Tuple
+    ensures { Claim sheet result }
 {
-    let free = free()?;
-    match Tuple::new(&[free, Field::Num(sheet)]) {
-        Some(tuple) => Ok(tuple),
-        None => Err(anyhow!("a claim has two fields")),
-    }
+    Tuple::new(&[free(), Field::Num(sheet)]).unwrap()
 }
 
 /// The template of claims whose second place is as given.
-fn template(sheet: Place) -> anyhow::Result<Template>
-    ensures { IfOk result (λ m. Sought sheet m) }
+fn template(sheet: Place) -> Template
+    ensures { Sought sheet result }
 {
-    let free = free()?;
-    match Template::new(&[Place::Actual(free), sheet]) {
-        Some(template) => Ok(template),
-        None => Err(anyhow!("a claim has two places")),
-    }
+    Template::new(&[Place::Actual(free()), sheet]).unwrap()
 }
 
 /// The word "free".
-fn free() -> anyhow::Result<Field>
-    ensures { IfOk result (λ f. Free f) }
+fn free() -> Field
+    ensures { Free result }
 {
-    match Word::new(FREE) {
-        Some(word) => Ok(Field::Word(word)),
-        None => Err(anyhow!("no such word")),
-    }
+    Field::Word(Word::new(FREE).unwrap())
 }
 
 fn offer<S: Space>(
@@ -97,10 +84,10 @@ fn tell(rt: &impl Print, who: &str, got: Option<Tuple>) -> anyhow::Result<()> {
 /// Offers claims until one is refused, and one at a site that there cannot be.
 fn fill<S: Space>(rt: &impl Print, space: &mut S) -> anyhow::Result<()> {
     for sheet in 20..23 {
-        let claim = claim(sheet)?;
+        let claim = claim(sheet);
         offer(rt, space, REGISTRY, claim)?;
     }
-    let claim = claim(23)?;
+    let claim = claim(23);
     offer(rt, space, 32, claim)
 }
 

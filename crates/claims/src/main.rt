@@ -1,7 +1,6 @@
 //! Offices contend for claims on sheets, through whatever space they are given.
 #![tactic(auto)]
 
-use anyhow::anyhow;
 use rows::tray::Tray;
 use spaces::held::Held;
 use spaces::tray_space::HeldTray;
@@ -18,12 +17,8 @@ fn main(rt: HostRuntime) -> anyhow::Result<()> {
 }
 
 fn run(rt: &impl Print) -> anyhow::Result<()> {
-    let Some(site) = Site::new(0) else {
-        return Err(anyhow!("no site 0"));
-    };
-    let Some(tuple) = Tuple::new(&[Field::Num(0)]) else {
-        return Err(anyhow!("no tuple"));
-    };
+    let site = Site::new(0).unwrap();
+    let tuple = Tuple::new(&[Field::Num(0)]).unwrap();
     let mut memory = [Held { site, tuple }; 4];
     let mut space: HeldTray = Tray::over(&mut memory);
     day::run(rt, &mut space)

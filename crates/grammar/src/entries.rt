@@ -1,139 +1,125 @@
 // Reading what stands in brackets: fields, places and parameters.
-ghost use Rattle.std.specs.Prelude.{◌≤◌, [], ◌∷◌, length};
+ghost use Rattle.std.specs.Prelude.{[], ◌∷◌};
 ghost use Rattle.syntax.specs.Machine.{leaf, sign, entry, more, upto, listed};
 ghost use Rattle.grammar.specs.Reads.{Reads};
 
-use crate::terms::{begins, expect, is_sign};
-use lex::{Kind, next_token};
+use crate::terms::begins;
+use crate::unread::{Reading, Unread};
+use lex::{Kind, Refusal};
 use syntax::{Entries, Terminal};
 
-fn read_field(text: &[u8], at: usize) -> Result<usize, (u8, usize)>
-    requires { at ≤ length text.now }
-    ensures { Reads (entry Entries.Fields ∷ []) text.now at result }
-{
-    let t = next_token(text, at)?;
-    match t.kind {
-        Kind::Name | Kind::Variable | Kind::Word => Ok(t.end),
-        Kind::Number(value) => {
-            if value.is_some() {
-                Ok(t.end)
-            } else {
-                Err((4, t.start))
+// How many entries may stand behind the first.
+const MORE: usize = 3;
+
+impl<'t> Unread<'t> {
+    fn field(self) -> Reading<'t>
+        ensures { Reads (entry Entries.Fields ∷ []) self.entry result }
+    {
+        let (token, rest) = self.token()?;
+        match token.kind {
+            Kind::Name | Kind::Variable | Kind::Word | Kind::Number(Some(_)) => Ok(rest),
+            Kind::Number(None) => Err((Refusal::TooLarge, token.start)),
+            Kind::End | Kind::Reserved(_) | Kind::Sign(_) => {
+                Err((Refusal::NotAllowed, token.start))
             }
         }
-        Kind::End | Kind::Reserved(_) | Kind::Sign(_) => Err((2, t.start)),
     }
-}
 
-// `$v:type`
-fn read_param(text: &[u8], at: usize) -> Result<usize, (u8, usize)>
-    requires { at ≤ length text.now }
-    ensures { Reads (leaf Terminal.Variable ∷ sign 58 ∷ leaf Terminal.TypeWord ∷ []) text.now at result }
-{
-    let a = expect(text, at, Terminal::Variable)?;
-    let b = expect(text, a, Terminal::Sign(b':'))?;
-    expect(text, b, Terminal::TypeWord)
-}
-
-fn read_place(text: &[u8], at: usize) -> Result<usize, (u8, usize)>
-    requires { at ≤ length text.now }
-    ensures { Reads (entry Entries.Places ∷ []) text.now at result }
-{
-    let t = next_token(text, at)?;
-    if is_sign(t.kind, b'!') {
-        read_param(text, t.end)
-    } else {
-        read_field(text, at)
+    // `$v:type`
+    fn param(self) -> Reading<'t>
+        ensures { Reads (leaf Terminal.Variable ∷ sign 58 ∷ leaf Terminal.TypeWord ∷ []) self.entry result }
+    {
+        self.expect(Terminal::Variable)?
+            .expect(Terminal::Sign(b':'))?
+            .expect(Terminal::TypeWord)
     }
-}
 
-fn read_entry(text: &[u8], at: usize, entries: Entries) -> Result<usize, (u8, usize)>
-    requires { at ≤ length text.now }
-    ensures { Reads (entry entries ∷ []) text.now at result }
-{
-    match entries {
-        Entries::Fields => read_field(text, at),
-        Entries::Places => read_place(text, at),
-        Entries::Params => read_param(text, at),
-    }
-}
-
-// Up to three more entries, each behind a comma.
-fn read_more(text: &[u8], at: usize, entries: Entries) -> Result<usize, (u8, usize)>
-    requires { at ≤ length text.now }
-    ensures { Reads (more entries 3 ∷ []) text.now at result }
-{
-    let mut here = at;
-    let mut left = 3u8;
-    while left > 0 {
-        let t = next_token(text, here)?;
-        if !is_sign(t.kind, b',') {
-            return Ok(here);
+    fn place(self) -> Reading<'t>
+        ensures { Reads (entry Entries.Places ∷ []) self.entry result }
+    {
+        match self.accept(Kind::Sign(b'!'))? {
+            Some(rest) => rest.param(),
+            None => self.field(),
         }
-        here = read_entry(text, t.end, entries)?;
-        left -= 1;
     }
-    Ok(here)
-}
 
-/// Reads one to four entries.
-pub(crate) fn read_some(text: &[u8], at: usize, entries: Entries) -> Result<usize, (u8, usize)>
-    requires { at ≤ length text.now }
-    ensures { Reads (entry entries ∷ more entries 3 ∷ []) text.now at result }
-{
-    let a = read_entry(text, at, entries)?;
-    read_more(text, a, entries)
-}
-
-/// Reads up to four entries.
-pub(crate) fn read_upto(text: &[u8], at: usize, entries: Entries) -> Result<usize, (u8, usize)>
-    requires { at ≤ length text.now }
-    ensures { Reads (upto entries ∷ []) text.now at result }
-{
-    let t = next_token(text, at)?;
-    if begins(t.kind, entries) {
-        read_some(text, at, entries)
-    } else {
-        Ok(at)
+    // One step for each sort of entries: the machine's definitions speak of the sort too, so that a
+    // method passed in its place would have to travel beside it.
+    fn entry(self, entries: Entries) -> Reading<'t>
+        ensures { Reads (entry entries ∷ []) self.entry result }
+    {
+        match entries {
+            Entries::Fields => self.field(),
+            Entries::Places => self.place(),
+            Entries::Params => self.param(),
+        }
     }
-}
 
-/// Reads what follows the word of an action that lists entries: the list and the target.
-pub(crate) fn read_listed(text: &[u8], at: usize, entries: Entries) -> Result<usize, (u8, usize)>
-    requires { at ≤ length text.now }
-    ensures { Reads (listed entries) text.now at result }
-{
-    let a = expect(text, at, Terminal::Sign(b'('))?;
-    let b = read_some(text, a, entries)?;
-    let c = expect(text, b, Terminal::Sign(b')'))?;
-    read_target(text, c)
-}
+    // Up to three more entries, each behind a comma.
+    fn more(self, entries: Entries) -> Reading<'t>
+        ensures { Reads (more entries 3 ∷ []) self.entry result }
+    {
+        let mut here = self;
+        for _ in 0..MORE {
+            let Some(rest) = here.accept(Kind::Sign(b','))? else {
+                return Ok(here);
+            };
+            here = rest.entry(entries)?;
+        }
+        Ok(here)
+    }
 
-/// Reads `@` and a target.
-pub(crate) fn read_target(text: &[u8], at: usize) -> Result<usize, (u8, usize)>
-    requires { at ≤ length text.now }
-    ensures { Reads (sign 64 ∷ leaf Terminal.Target ∷ []) text.now at result }
-{
-    let a = expect(text, at, Terminal::Sign(b'@'))?;
-    expect(text, a, Terminal::Target)
-}
+    /// Reads one to four entries.
+    pub(crate) fn some(self, entries: Entries) -> Reading<'t>
+        ensures { Reads (entry entries ∷ more entries 3 ∷ []) self.entry result }
+    {
+        self.entry(entries)?.more(entries)
+    }
 
-/// Reads what follows a call's name.
-pub(crate) fn read_arguments(text: &[u8], at: usize) -> Result<usize, (u8, usize)>
-    requires { at ≤ length text.now }
-    ensures { Reads (sign 40 ∷ upto Entries.Fields ∷ sign 41 ∷ []) text.now at result }
-{
-    let a = expect(text, at, Terminal::Sign(b'('))?;
-    let b = read_upto(text, a, Entries::Fields)?;
-    expect(text, b, Terminal::Sign(b')'))
-}
+    /// Reads up to four entries.
+    pub(crate) fn upto(self, entries: Entries) -> Reading<'t>
+        ensures { Reads (upto entries ∷ []) self.entry result }
+    {
+        let (token, _) = self.token()?;
+        if begins(token.kind, entries) {
+            self.some(entries)
+        } else {
+            Ok(self)
+        }
+    }
 
-/// Reads what follows `newloc`.
-pub(crate) fn read_fresh(text: &[u8], at: usize) -> Result<usize, (u8, usize)>
-    requires { at ≤ length text.now }
-    ensures { Reads (sign 40 ∷ leaf Terminal.Variable ∷ sign 41 ∷ []) text.now at result }
-{
-    let a = expect(text, at, Terminal::Sign(b'('))?;
-    let b = expect(text, a, Terminal::Variable)?;
-    expect(text, b, Terminal::Sign(b')'))
+    /// Reads what follows the word of an action that lists entries: the list and the target.
+    pub(crate) fn listed(self, entries: Entries) -> Reading<'t>
+        ensures { Reads (listed entries) self.entry result }
+    {
+        self.expect(Terminal::Sign(b'('))?
+            .some(entries)?
+            .expect(Terminal::Sign(b')'))?
+            .target()
+    }
+
+    /// Reads `@` and a target.
+    pub(crate) fn target(self) -> Reading<'t>
+        ensures { Reads (sign 64 ∷ leaf Terminal.Target ∷ []) self.entry result }
+    {
+        self.expect(Terminal::Sign(b'@'))?.expect(Terminal::Target)
+    }
+
+    /// Reads what follows a call's name.
+    pub(crate) fn arguments(self) -> Reading<'t>
+        ensures { Reads (sign 40 ∷ upto Entries.Fields ∷ sign 41 ∷ []) self.entry result }
+    {
+        self.expect(Terminal::Sign(b'('))?
+            .upto(Entries::Fields)?
+            .expect(Terminal::Sign(b')'))
+    }
+
+    /// Reads what follows `newloc`.
+    pub(crate) fn fresh(self) -> Reading<'t>
+        ensures { Reads (sign 40 ∷ leaf Terminal.Variable ∷ sign 41 ∷ []) self.entry result }
+    {
+        self.expect(Terminal::Sign(b'('))?
+            .expect(Terminal::Variable)?
+            .expect(Terminal::Sign(b')'))
+    }
 }

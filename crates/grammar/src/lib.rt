@@ -5,5 +5,6 @@ mod entries;
 mod net;
 mod process;
 mod terms;
+mod unread;
 
 pub use net::check;

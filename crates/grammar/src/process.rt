@@ -1,113 +1,91 @@
-// Reading a process: processes, items and actions call each other over the text.
-ghost use Rattle.std.specs.Prelude.{◌≤◌, [], ◌∷◌, length};
+// Reading a process: processes, items and actions call each other over the text, while less and less
+// of it is unread. The project asks for a reader in this form.
+ghost use Rattle.std.specs.Prelude.{[], ◌∷◌};
 ghost use Rattle.syntax.specs.Machine.{proc, item, opening, leaf, sign};
 ghost use Rattle.grammar.specs.Reads.{ReadsIn, Acts, Prefixes};
 
-use crate::entries::{read_arguments, read_fresh, read_listed, read_target};
-use crate::terms::{expect, is_key, is_sign};
-use lex::{Keyword, Kind, next_token};
+use crate::unread::{Reading, Unread};
+use lex::{Keyword, Kind, Refusal};
 use syntax::{Entries, Terminal};
 
 // How many brackets may be open at once.
 const DEEPEST: usize = 16;
 
-/// Reads items joined by `|`, under `depth` open brackets.
-#[cycle(process)]
-pub(crate) fn read_process(text: &[u8], at: usize, depth: usize) -> Result<usize, (u8, usize)>
-    requires { at ≤ length text.now }
-    ensures { ReadsIn depth (proc ∷ []) text.now at result }
-{
-    let mut here = read_item(text, at, depth)?;
-    loop {
-        let t = next_token(text, here)?;
-        if !is_sign(t.kind, b'|') {
-            return Ok(here);
+impl<'t> Unread<'t> {
+    /// Reads items joined by `|`, under `depth` open brackets.
+    #[cycle(process)]
+    pub(crate) fn process(self, depth: usize) -> Reading<'t>
+        ensures { ReadsIn depth (proc ∷ []) self.entry result }
+    {
+        let mut here = self.item(depth)?;
+        while let Some(rest) = here.accept(Kind::Sign(b'|'))? {
+            here = rest.item(depth)?;
         }
-        here = read_item(text, t.end, depth)?;
+        Ok(here)
     }
-}
 
-// Actions, each with a dot behind it, and then `nil`, a call or a bracket.
-#[cycle(process)]
-fn read_item(text: &[u8], at: usize, depth: usize) -> Result<usize, (u8, usize)>
-    requires { at ≤ length text.now }
-    ensures { ReadsIn depth (item ∷ []) text.now at result }
-{
-    let mut here = at;
-    loop {
-        let t = next_token(text, here)?;
-        if is_key(t.kind, Keyword::Nil) {
-            return Ok(t.end);
-        }
-        match t.kind {
-            Kind::Reserved(word) => here = read_prefix(text, t.end, word, t.start, depth)?,
-            Kind::Name => return read_arguments(text, t.end),
-            Kind::Sign(_) => return read_bracket(text, here, depth),
-            Kind::End | Kind::Variable | Kind::Word | Kind::Number(_) => return Err((2, t.start)),
+    // Actions, each with a dot behind it, and then `nil`, a call or a bracket.
+    #[cycle(process)]
+    fn item(self, depth: usize) -> Reading<'t>
+        ensures { ReadsIn depth (item ∷ []) self.entry result }
+    {
+        let mut here = self;
+        loop {
+            let (token, rest) = here.token()?;
+            match token.kind {
+                Kind::Reserved(Keyword::Nil) => return Ok(rest),
+                Kind::Reserved(word) => here = rest.prefix(word, token.start, depth)?,
+                Kind::Name => return rest.arguments(),
+                Kind::Sign(_) => return here.bracket(depth),
+                Kind::End | Kind::Variable | Kind::Word | Kind::Number(_) => {
+                    return Err((Refusal::NotAllowed, token.start));
+                }
+            }
         }
     }
-}
 
-// What follows the word of an action, which stands at `start`, and the dot behind the action.
-#[cycle(process)]
-fn read_prefix(
-    text: &[u8],
-    at: usize,
-    word: Keyword,
-    start: usize,
-    depth: usize,
-) -> Result<usize, (u8, usize)>
-    requires { at ≤ length text.now }
-    ensures { Prefixes depth word start text.now at result }
-{
-    let a = read_action(text, at, word, start, depth)?;
-    expect(text, a, Terminal::Sign(b'.'))
-}
-
-// What follows the word of an action, which stands at `start`.
-#[cycle(process)]
-fn read_action(
-    text: &[u8],
-    at: usize,
-    word: Keyword,
-    start: usize,
-    depth: usize,
-) -> Result<usize, (u8, usize)>
-    requires { at ≤ length text.now }
-    ensures { Acts depth word start text.now at result }
-{
-    match word {
-        Keyword::Out => read_listed(text, at, Entries::Fields),
-        Keyword::In => read_listed(text, at, Entries::Places),
-        Keyword::Read => read_listed(text, at, Entries::Places),
-        Keyword::Eval => read_eval(text, at, depth),
-        Keyword::Newloc => read_fresh(text, at),
-        _ => Err((2, start)),
+    // What follows the word of an action, which stands at `start`, and the dot behind the action.
+    #[cycle(process)]
+    fn prefix(self, word: Keyword, start: usize, depth: usize) -> Reading<'t>
+        ensures { Prefixes depth word start self.entry result }
+    {
+        self.action(word, start, depth)?
+            .expect(Terminal::Sign(b'.'))
     }
-}
 
-#[cycle(process)]
-fn read_eval(text: &[u8], at: usize, depth: usize) -> Result<usize, (u8, usize)>
-    requires { at ≤ length text.now }
-    ensures { ReadsIn depth (opening ∷ sign 64 ∷ leaf Terminal.Target ∷ []) text.now at result }
-{
-    let a = read_bracket(text, at, depth)?;
-    read_target(text, a)
-}
+    // What follows the word of an action, which stands at `start`.
+    #[cycle(process)]
+    fn action(self, word: Keyword, start: usize, depth: usize) -> Reading<'t>
+        ensures { Acts depth word start self.entry result }
+    {
+        match word {
+            Keyword::Out => self.listed(Entries::Fields),
+            Keyword::In | Keyword::Read => self.listed(Entries::Places),
+            Keyword::Eval => self.eval(depth),
+            Keyword::Newloc => self.fresh(),
+            _ => Err((Refusal::NotAllowed, start)),
+        }
+    }
 
-// `(P)`
-#[cycle(process)]
-fn read_bracket(text: &[u8], at: usize, depth: usize) -> Result<usize, (u8, usize)>
-    requires { at ≤ length text.now }
-    ensures { ReadsIn depth (opening ∷ []) text.now at result }
-{
-    let t = next_token(text, at)?;
-    if !is_sign(t.kind, b'(') {
-        return Err((2, t.start));
+    #[cycle(process)]
+    fn eval(self, depth: usize) -> Reading<'t>
+        ensures { ReadsIn depth (opening ∷ sign 64 ∷ leaf Terminal.Target ∷ []) self.entry result }
+    {
+        self.bracket(depth)?.target()
     }
-    if depth >= DEEPEST {
-        return Err((3, t.start));
+
+    // `(P)`
+    #[cycle(process)]
+    fn bracket(self, depth: usize) -> Reading<'t>
+        ensures { ReadsIn depth (opening ∷ []) self.entry result }
+    {
+        let (token, rest) = self.token()?;
+        if token.kind != Kind::Sign(b'(') {
+            return Err((Refusal::NotAllowed, token.start));
+        }
+        if depth >= DEEPEST {
+            return Err((Refusal::TooDeep, token.start));
+        }
+        rest.process(depth + 1)?.expect(Terminal::Sign(b')'))
     }
-    let a = read_process(text, t.end, depth + 1)?;
-    expect(text, a, Terminal::Sign(b')'))
 }

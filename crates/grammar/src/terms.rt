@@ -1,87 +1,35 @@
-// Which token stands for what.
-ghost use Rattle.std.specs.Prelude.{◌≡◌, ◌≤◌, [], ◌∷◌, length};
-ghost use Rattle.lex.specs.Next.{is_end};
-ghost use Rattle.syntax.specs.Machine.{fits, is_key, is_sign, is_name, is_variable, is_type, is_field, starts, line_key, leaf};
-ghost use Rattle.grammar.specs.Reads.{Reads};
+// Taking a token, and which token stands for what.
+ghost use Rattle.std.specs.Prelude.{◌≡◌, [], ◌∷◌};
+ghost use Rattle.syntax.specs.Machine.{fits, is_field, starts, leaf};
+ghost use Rattle.grammar.specs.Reads.{Takes, Accepts, Reads};
 
-use lex::{Keyword, Kind, next_token};
-use syntax::{Entries, Lines, Terminal};
+use crate::unread::{Reading, Unread};
+use lex::{Keyword, Kind, Refusal, Token, next_token};
+use syntax::{Entries, Terminal};
 
-/// Whether the token is the text's end.
-pub(crate) fn is_end(kind: Kind) -> bool
-    ensures { result ≡ is_end kind }
-{
-    match kind {
-        Kind::End => true,
-        _ => false,
-    }
-}
-
-/// Whether the token is this sign.
-pub(crate) fn is_sign(kind: Kind, b: u8) -> bool
-    ensures { result ≡ is_sign b kind }
-{
-    match kind {
-        Kind::Sign(c) => c == b,
-        _ => false,
-    }
-}
-
-/// Whether the token is a name.
-pub(crate) fn is_name(kind: Kind) -> bool
-    ensures { result ≡ is_name kind }
-{
-    match kind {
-        Kind::Name => true,
-        _ => false,
-    }
-}
-
-/// Whether the token is a variable.
-pub(crate) fn is_variable(kind: Kind) -> bool
-    ensures { result ≡ is_variable kind }
-{
-    match kind {
-        Kind::Variable => true,
-        _ => false,
-    }
-}
-
-fn is_type(kind: Kind) -> bool
-    ensures { result ≡ is_type kind }
-{
-    match kind {
-        Kind::Reserved(Keyword::Num | Keyword::Word | Keyword::Site) => true,
-        _ => false,
-    }
-}
-
+// Whether a field may be this token, as two sorts of entries ask.
 fn is_field(kind: Kind) -> bool
     ensures { result ≡ is_field kind }
 {
-    match kind {
-        Kind::Name | Kind::Variable | Kind::Word | Kind::Number(_) => true,
-        _ => false,
-    }
+    matches!(
+        kind,
+        Kind::Name | Kind::Variable | Kind::Word | Kind::Number(_)
+    )
 }
 
-/// Whether the token is this reserved word.
-pub(crate) fn is_key(kind: Kind, word: Keyword) -> bool
-    ensures { result ≡ is_key word kind }
-{
-    kind == Kind::Reserved(word)
-}
-
-/// Whether the token stands for the terminal.
-pub(crate) fn stands_for(kind: Kind, terminal: Terminal) -> bool
+// Whether the token stands for the terminal.
+fn stands_for(kind: Kind, terminal: Terminal) -> bool
     ensures { result ≡ fits terminal kind }
 {
     match terminal {
-        Terminal::Sign(b) => is_sign(kind, b),
-        Terminal::Name => is_name(kind),
-        Terminal::Variable => is_variable(kind),
-        Terminal::TypeWord => is_type(kind),
-        Terminal::Target => is_name(kind) || is_variable(kind),
+        Terminal::Sign(b) => kind == Kind::Sign(b),
+        Terminal::Name => kind == Kind::Name,
+        Terminal::Variable => kind == Kind::Variable,
+        Terminal::TypeWord => matches!(
+            kind,
+            Kind::Reserved(Keyword::Num | Keyword::Word | Keyword::Site)
+        ),
+        Terminal::Target => matches!(kind, Kind::Name | Kind::Variable),
     }
 }
 
@@ -91,32 +39,41 @@ pub(crate) fn begins(kind: Kind, entries: Entries) -> bool
 {
     match entries {
         Entries::Fields => is_field(kind),
-        Entries::Places => is_sign(kind, b'!') || is_field(kind),
-        Entries::Params => is_variable(kind),
+        Entries::Places => kind == Kind::Sign(b'!') || is_field(kind),
+        Entries::Params => kind == Kind::Variable,
     }
 }
 
-/// The reserved word that such lines begin with.
-pub(crate) fn line_word(which: Lines) -> Keyword
-    ensures { result ≡ line_key which }
-{
-    match which {
-        Lines::Sites => Keyword::Site,
-        Lines::Defs => Keyword::Def,
-        Lines::Puts => Keyword::Put,
-        Lines::Runs => Keyword::Run,
+impl<'t> Unread<'t> {
+    /// Takes the next token, and gives what is unread behind it.
+    pub(crate) fn token(self) -> Result<(Token<'t>, Unread<'t>), (Refusal, usize)>
+        ensures { Takes self.entry result }
+    {
+        let token = next_token(self.text, self.at)?;
+        let rest = Unread {
+            text: self.text,
+            at: token.end,
+        };
+        Ok((token, rest))
     }
-}
 
-/// Reads the terminal, and gives the place behind it.
-pub(crate) fn expect(text: &[u8], at: usize, terminal: Terminal) -> Result<usize, (u8, usize)>
-    requires { at ≤ length text.now }
-    ensures { Reads (leaf terminal ∷ []) text.now at result }
-{
-    let t = next_token(text, at)?;
-    if stands_for(t.kind, terminal) {
-        Ok(t.end)
-    } else {
-        Err((2, t.start))
+    /// What is unread behind the next token, where it is of this kind.
+    pub(crate) fn accept(self, kind: Kind) -> Result<Option<Unread<'t>>, (Refusal, usize)>
+        ensures { Accepts kind self.entry result }
+    {
+        let (token, rest) = self.token()?;
+        Ok((token.kind == kind).then_some(rest))
+    }
+
+    /// Reads the terminal.
+    pub(crate) fn expect(self, terminal: Terminal) -> Reading<'t>
+        ensures { Reads (leaf terminal ∷ []) self.entry result }
+    {
+        let (token, rest) = self.token()?;
+        if stands_for(token.kind, terminal) {
+            Ok(rest)
+        } else {
+            Err((Refusal::NotAllowed, token.start))
+        }
     }
 }

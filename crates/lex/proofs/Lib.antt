@@ -1,4 +1,3 @@
 pub mod Cutting
 pub mod Ends
-pub mod Pieces
 pub mod Runs

@@ -1,33 +1,18 @@
 -- What a byte is, and what a run of letters and digits is.
-use Rattle.std.specs.Prelude.{ℕ, Bool, false, cond, not, ◌&&◌, ◌||◌, List, length, Some, None, codes, Option, ◌==◌, nat_le}
-use Rattle.std.specs.List.{prefix_len}
+use Rattle.std.specs.Prelude.{◌≡◌, ℕ, Bool, false, cond, not, ◌&&◌, ◌||◌, List, length, Some, None, codes, Option, ◌==◌, nat_le}
 use Rattle.std.specs.Str.{bytes_eq}
 use Rattle.lex.specs.declared.Keyword.{Keyword}
 use Rattle.lex.specs.declared.Keyword.TheVariants.{Site, Def, Put, Run, Nil, Out, In, Read, Eval, Newloc, Num, Word}
 use Rattle.lex.specs.declared.Kind.{Kind}
 use Rattle.lex.specs.declared.Kind.TheVariants.{Reserved, Name}
-use Rattle.lex.specs.declared.bytes.Class.{Class}
-use Rattle.lex.specs.declared.bytes.Class.TheVariants.{Blank, Letter, Digit, Alnum, Plain}
 
--- letters are those of ASCII
-abbrev is_letter : ℕ → Bool
-is_letter b = (nat_le 65 b && nat_le b 90) || (nat_le 97 b && nat_le b 122)
+-- blanks are space, tab, CR and LF
+abbrev pub is_blank : ℕ → Bool
+is_blank b = b == 32 || (b == 9 || (b == 13 || b == 10))
 
--- a decimal digit
-abbrev is_digit : ℕ → Bool
-is_digit b = nat_le 48 b && nat_le b 57
-
--- blanks are space, tab, CR and LF; plain bytes are those that may stand in a word
-abbrev pub member : Class → ℕ → Bool
-member Blank b = b == 32 || (b == 9 || (b == 13 || b == 10))
-member Letter b = is_letter b
-member Digit b = is_digit b
-member Alnum b = is_letter b || is_digit b
-member Plain b = nat_le 32 b && (nat_le b 126 && not (b == 34))
-
--- how many bytes of the class stand in front
-abbrev pub leads : Class → List ℕ → ℕ
-leads class bs = prefix_len (member class) bs
+-- the bytes that may stand in a word
+abbrev pub is_plain : ℕ → Bool
+is_plain b = nat_le 32 b && (nat_le b 126 && not (b == 34))
 
 -- the grammar's signs: ! ( ) , . : ; = @ { | }
 abbrev pub is_mark : ℕ → Bool
@@ -58,3 +43,7 @@ run_kind w = elim (reserved w) [ Some k ↦ Some (Reserved k) | None ↦ cond (n
 -- a name is no reserved word and has at most 16 bytes
 abbrev pub is_name : List ℕ → Bool
 is_name w = elim (reserved w) [ Some k ↦ false | None ↦ nat_le (length w) 16 ]
+
+-- each result that post tells is that of the test p
+abbrev pub Computes : (ℕ → Bool → Type 0) → (ℕ → Bool) → Type 0
+Computes post p = (b : ℕ) (r : Bool) → post b r → r ≡ p b

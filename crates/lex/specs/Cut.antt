@@ -1,5 +1,5 @@
 -- What the tokeniser answers where the bytes bs begin with a token.
-use Rattle.std.specs.Prelude.{◌≡◌, ℕ, ◌+◌, ◌<◌, ◌≤◌, false, List, length, None, Result, MatchResult}
+use Rattle.std.specs.Prelude.{◌≡◌, ℕ, ◌+◌, ◌<◌, ◌≤◌, Bool, true, false, List, length, None, Option, MatchOption}
 use Rattle.lex.specs.Next.{plain, is_end}
 use Rattle.lex.specs.Tokens.{Tok}
 use Rattle.lex.specs.declared.Token.{Token}
@@ -11,6 +11,10 @@ pub record Cut (bs : List ℕ) (tok : Tok) (t : Token) : Type 0 where
   pub within : t.end ≤ t.start + length bs
   pub more : is_end t.kind ≡ false
 
--- the token, or the refusal where it has no kind
-abbrev pub Cuts : List ℕ → Tok → Result Token (ℕ × ℕ) → Type 0
-Cuts bs tok r = MatchResult r (λ t. Cut bs tok t) (λ p. (tok.kind ≡ None) × (p ≡ (2, tok.start)))
+-- the token, or none where it has no kind
+abbrev pub Cuts : List ℕ → Tok → Option Token → Type 0
+Cuts bs tok r = MatchOption r (tok.kind ≡ None) (λ t. Cut bs tok t)
+
+-- the token where the bytes are of its form, and none where they are not
+abbrev pub Tries : List ℕ → Bool → Tok → Option Token → Type 0
+Tries bs fits tok r = MatchOption r (fits ≡ false) (λ t. (fits ≡ true) × Cut bs tok t)

@@ -4,6 +4,8 @@ use Rattle.lex.specs.Tokens.{Tok, from}
 use Rattle.lex.specs.declared.Kind.{Kind}
 use Rattle.lex.specs.declared.Kind.TheVariants.{End, Reserved, Name, Variable, Word, Number, Sign}
 use Rattle.lex.specs.declared.Token.{Token}
+use Rattle.lex.specs.declared.refusal.Refusal.{Refusal}
+use Rattle.lex.specs.declared.refusal.Refusal.TheVariants.{NotAllowed}
 
 -- whether the kind is that of the text's end
 abbrev pub is_end : Kind → Bool
@@ -28,13 +30,13 @@ pub record Found (text : List ℕ) (at : ℕ) (t : Token) : Type 0 where
   pub first : from text at ≡ plain t ∷ cond (is_end t.kind) [] (from text t.end)
 
 -- the first token is one that the grammar allows nowhere, and p says where it starts
-pub record Stray (text : List ℕ) (at : ℕ) (p : ℕ × ℕ) : Type 0 where
+pub record Stray (text : List ℕ) (at : ℕ) (p : Refusal × ℕ) : Type 0 where
   pub tok : Tok
   pub rest : List Tok
   pub first : from text at ≡ tok ∷ rest
   pub odd : tok.kind ≡ None
-  pub told : p ≡ (2, tok.start)
+  pub told : p ≡ (NotAllowed, tok.start)
 
 -- the first token from the place on, or the refusal where it has no kind
-abbrev pub Next : List ℕ → ℕ → Result Token (ℕ × ℕ) → Type 0
+abbrev pub Next : List ℕ → ℕ → Result Token (Refusal × ℕ) → Type 0
 Next text at r = MatchResult r (λ t. Found text at t) (λ p. Stray text at p)

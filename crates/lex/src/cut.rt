@@ -1,163 +1,147 @@
 // The token that stands at a place of the text.
-ghost use Rattle.std.specs.Prelude.{◌≡◌, ◌+◌, ◌-◌, ◌^◌, ◌<◌, true, false, length, slice_index};
-ghost use Rattle.lex.specs.Bytes.{member};
-ghost use Rattle.lex.specs.Cut.{Cut, Cuts};
-ghost use Rattle.lex.specs.Next.{Next};
-ghost use Rattle.lex.specs.Tokens.{run_tok, number_tok, variable_tok, word_tok, sign_tok, tok_at, is_negative, is_variable, is_word, TokensEnd};
+ghost use Rattle.std.specs.Prelude.{◌≡◌, ◌+◌, ◌^◌, ◌<◌, ◌≤◌, true, false, Some, length, slice_index};
+ghost use Rattle.std.specs.Char.{is_ascii_alphabetic, is_ascii_digit};
+ghost use Rattle.lex.specs.Cut.{Cut, Cuts, Tries};
+ghost use Rattle.lex.specs.Next.{Next, is_end};
+ghost use Rattle.lex.specs.Tokens.{tok, run_tok, number_tok, variable_tok, word_tok, sign_tok, tok_at, signs, is_variable, is_word, TokensEnd};
 
-use crate::bytes::{Class, belongs, is_mark, is_name, past, run_kind};
+use crate::bytes::{is_blank, is_mark, is_name, is_plain, leading, run_kind};
 use crate::number::number;
+use crate::refusal::Refusal;
 use crate::{Kind, Token};
 
+// What is left of a text, and where it starts there.
+#[derive(Clone, Copy)]
+struct Rest<'t> {
+    bytes: &'t [u8],
+    start: usize,
+    ghost some: { 0 < length bytes.now },
+    ghost fits: { start + length bytes.now < 2 ^ 64 },
+}
+
 /// The first token from the place on, or the text's end; where the grammar allows such a token
-/// nowhere, 2 and its start.
-pub fn next_token<'t>(text: &'t [u8], at: usize) -> Result<Token<'t>, (u8, usize)>
+/// nowhere, that refusal and its start.
+pub fn next_token<'t>(text: &'t [u8], at: usize) -> Result<Token<'t>, (Refusal, usize)>
     ensures { Next text.now at result }
 {
-    let start = past(text, at.min(text.len()), Class::Blank);
+    let from = at.min(text.len());
+    let start = from + leading(&text[from..], is_blank).len();
     if start == text.len() {
         return Ok(Token {
             kind: Kind::End,
-            text: &text[start..start],
+            text: b"",
             start,
             end: start,
         });
     }
-    cut(&text[start..], start)
+    let bytes = &text[start..];
+    Rest { bytes, start }
+        .first_token()
+        .ok_or((Refusal::NotAllowed, start))
 }
 
-// The token that `bytes` begins with, where they stand from `start` on in the text.
-fn cut<'t>(bytes: &'t [u8], start: usize) -> Result<Token<'t>, (u8, usize)>
-    requires { (0 < length bytes.now) × (start + length bytes.now < 2 ^ 64) }
-    ensures { Cuts bytes.now (tok_at start bytes.now) result }
-{
-    if belongs(bytes[0], Class::Letter) {
-        return cut_run(bytes, start);
+impl<'t> Rest<'t> {
+    // The token that it begins with.
+    #[tactic(auto, unfolding(crate::specs::Tokens::tok_at))]
+    fn first_token(self) -> Option<Token<'t>>
+        ensures { Cuts self.entry.bytes.now (tok_at self.entry.start self.entry.bytes.now) result }
+    {
+        match self.bytes[0] {
+            b'A'..=b'Z' | b'a'..=b'z' => self.run(),
+            b'0'..=b'9' => self.number(false),
+            b'-' => self.number(true),
+            b'$' => self.variable(),
+            b'"' => self.word(),
+            b => self.sign(b),
+        }
     }
-    if belongs(bytes[0], Class::Digit) {
-        return Ok(cut_number(bytes, start, false, 0));
-    }
-    if is_negative(bytes) {
-        return Ok(cut_number(bytes, start, true, 1));
-    }
-    if is_variable(bytes) {
-        return Ok(cut_variable(bytes, start));
-    }
-    if is_word(bytes) {
-        return Ok(cut_word(bytes, start));
-    }
-    cut_sign(bytes, start)
-}
 
-fn byte_at(bytes: &[u8], i: usize) -> u8
-    ensures { result ≡ slice_index bytes.now i }
-{
-    if i < bytes.len() { bytes[i] } else { 0 }
-}
-
-fn cut_run<'t>(bytes: &'t [u8], start: usize) -> Result<Token<'t>, (u8, usize)>
-    requires { (start + length bytes.now < 2 ^ 64) × (member Class.Letter (slice_index bytes.now 0) ≡ true) }
-    ensures { Cuts bytes.now (run_tok start bytes.now) result }
-{
-    let n = past(bytes, 0, Class::Alnum);
-    let text = &bytes[0..n];
-    match run_kind(text) {
-        Some(kind) => Ok(Token {
+    // The token of its first bytes, so many, with a part of the text.
+    fn token(self, kind: Kind, text: &'t [u8], size: usize) -> Token<'t>
+        requires more { is_end kind ≡ false }
+        requires moves { 0 < size }
+        requires within { size ≤ length self.bytes.now }
+        ensures { Cut self.entry.bytes.now (tok self.entry.start (Some kind) text.now size) result }
+    {
+        Token {
             kind,
             text,
-            start,
-            end: start + n,
-        }),
-        None => Err((2, start)),
+            start: self.start,
+            end: self.start + size,
+        }
     }
-}
 
-fn cut_number<'t>(bytes: &'t [u8], start: usize, minus: bool, sign: usize) -> Token<'t>
-    requires { (start + length bytes.now < 2 ^ 64) × (member Class.Digit (slice_index bytes.now sign) ≡ true) }
-    ensures { Cut bytes.now (number_tok start minus sign bytes.now) result }
-{
-    let n = past(bytes, sign, Class::Digit);
-    let value = number(minus, &bytes[sign..n]);
-    Token {
-        kind: Kind::Number(value),
-        text: &bytes[0..0],
-        start,
-        end: start + n,
+    // A run of letters and digits, if it is not too long for a name.
+    fn run(self) -> Option<Token<'t>>
+        requires { is_ascii_alphabetic (slice_index self.bytes.now 0) ≡ true }
+        ensures { Cuts self.entry.bytes.now (run_tok self.entry.start self.entry.bytes.now) result }
+    {
+        let text = leading(self.bytes, |b| b.is_ascii_alphanumeric());
+        let kind = run_kind(text)?;
+        Some(self.token(kind, text, text.len()))
     }
-}
 
-fn is_negative(bytes: &[u8]) -> bool
-    ensures { result ≡ is_negative bytes.now }
-{
-    byte_at(bytes, 0) == b'-' && belongs(byte_at(bytes, 1), Class::Digit)
-}
-
-fn is_variable(bytes: &[u8]) -> bool
-    ensures { result ≡ is_variable bytes.now }
-{
-    if byte_at(bytes, 0) != b'$' || !belongs(byte_at(bytes, 1), Class::Letter) {
-        return false;
+    // A number, if a digit stands behind its sign.
+    fn number(self, minus: bool) -> Option<Token<'t>>
+        ensures { Tries self.entry.bytes.now
+            (is_ascii_digit (slice_index self.entry.bytes.now (signs minus)))
+            (number_tok self.entry.start minus self.entry.bytes.now)
+            result }
+    {
+        let signs = usize::from(minus);
+        let digits = leading(&self.bytes[signs..], |b| b.is_ascii_digit());
+        if digits.is_empty() {
+            return None;
+        }
+        let kind = Kind::Number(number(minus, digits));
+        Some(self.token(kind, b"", signs + digits.len()))
     }
-    let n = past(bytes, 1, Class::Alnum);
-    is_name(&bytes[1..n])
-}
 
-fn cut_variable<'t>(bytes: &'t [u8], start: usize) -> Token<'t>
-    requires { (start + length bytes.now < 2 ^ 64) × (is_variable bytes.now ≡ true) }
-    ensures { Cut bytes.now (variable_tok start bytes.now) result }
-{
-    let n = past(bytes, 1, Class::Alnum);
-    Token {
-        kind: Kind::Variable,
-        text: &bytes[1..n],
-        start,
-        end: start + n,
+    // A variable, if a name stands behind its `$`.
+    fn variable(self) -> Option<Token<'t>>
+        requires { slice_index self.bytes.now 0 ≡ 36 }
+        ensures { Tries self.entry.bytes.now
+            (is_variable self.entry.bytes.now)
+            (variable_tok self.entry.start self.entry.bytes.now)
+            result }
+    {
+        let name = leading(&self.bytes[1..], |b| b.is_ascii_alphanumeric());
+        if name.first().is_some_and(u8::is_ascii_alphabetic) && is_name(name) {
+            Some(self.token(Kind::Variable, name, 1 + name.len()))
+        } else {
+            None
+        }
     }
-}
 
-fn is_word(bytes: &[u8]) -> bool
-    ensures { result ≡ is_word bytes.now }
-{
-    if byte_at(bytes, 0) != b'"' {
-        return false;
+    // A word, if at most 16 plain bytes stand between its quotes.
+    fn word(self) -> Option<Token<'t>>
+        requires { slice_index self.bytes.now 0 ≡ 34 }
+        ensures { Tries self.entry.bytes.now
+            (is_word self.entry.bytes.now)
+            (word_tok self.entry.start self.entry.bytes.now)
+            result }
+    {
+        let text = leading(&self.bytes[1..], is_plain);
+        if self.bytes.get(1 + text.len()) == Some(&b'"') && text.len() <= 16 {
+            Some(self.token(Kind::Word, text, 2 + text.len()))
+        } else {
+            None
+        }
     }
-    let n = past(bytes, 1, Class::Plain);
-    byte_at(bytes, n) == b'"' && n - 1 <= 16
-}
 
-fn cut_word<'t>(bytes: &'t [u8], start: usize) -> Token<'t>
-    requires { (start + length bytes.now < 2 ^ 64) × (is_word bytes.now ≡ true) }
-    ensures { Cut bytes.now (word_tok start bytes.now) result }
-{
-    let n = past(bytes, 1, Class::Plain);
-    Token {
-        kind: Kind::Word,
-        text: &bytes[1..n],
-        start,
-        end: start + n + 1,
-    }
-}
-
-fn cut_sign<'t>(bytes: &'t [u8], start: usize) -> Result<Token<'t>, (u8, usize)>
-    requires { (0 < length bytes.now) × (start + length bytes.now < 2 ^ 64) }
-    ensures { Cuts bytes.now (sign_tok start (slice_index bytes.now 0)) result }
-{
-    let b = bytes[0];
-    if is_mark(b) {
-        Ok(Token {
-            kind: Kind::Sign(b),
-            text: &bytes[0..0],
-            start,
-            end: start + 1,
-        })
-    } else {
-        Err((2, start))
+    // A sign of the grammar, if the byte is one.
+    fn sign(self, b: u8) -> Option<Token<'t>>
+        ensures { Cuts self.entry.bytes.now (sign_tok self.entry.start b) result }
+    {
+        if is_mark(b) {
+            Some(self.token(Kind::Sign(b), b"", 1))
+        } else {
+            None
+        }
     }
 }
 
 /// The tokens of every text end with the text's end, at its length, and it stands nowhere else.
-pub fn tokens_end() -> u8
+pub fn tokens_end()
     ensures { TokensEnd }
-{
-    0
-}
+{}

@@ -4,8 +4,10 @@
 mod bytes;
 mod cut;
 mod number;
+mod refusal;
 
 pub use cut::{next_token, tokens_end};
+pub use refusal::Refusal;
 
 /// A reserved word, which names nothing.
 #[derive(Clone, Copy, Debug, PartialEq, Eq)]

@@ -2,38 +2,28 @@ ghost use Rattle.reader.specs.Examples.{ClaimNetRead, FaultsShown, NodesShown};
 ghost use Rattle.reader.specs.Laws.{LeastDecides, NodesNumbered, BeginsInside, NodesClosed};
 
 /// Of the faults of a text, the one with the smallest place decides, and of those at one place the one with the smallest number.
-pub fn least_decides() -> bool
+pub fn least_decides()
     ensures { LeastDecides }
-{
-    true
-}
+{}
 
 /// A worked text, from its bytes to the net that it stands for.
-pub fn claim_net_read() -> bool
+pub fn claim_net_read()
     ensures { ClaimNetRead }
-{
-    true
-}
+{}
 
 /// Worked texts, one for each rule of names, types and tables, with the fault that decides.
-pub fn faults_shown() -> bool
+pub fn faults_shown()
     ensures { FaultsShown }
-{
-    true
-}
+{}
 
 /// Worked texts that show how nodes are numbered and linked.
-pub fn nodes_shown() -> bool
+pub fn nodes_shown()
     ensures { NodesShown }
-{
-    true
-}
+{}
 
 /// Nodes are numbered in the order of the text, a process begins with one of its own, and none leads out of its process.
-pub fn nodes_linked() -> bool
+pub fn nodes_linked()
     ensures numbered { NodesNumbered }
     ensures begins { BeginsInside }
     ensures closed { NodesClosed }
-{
-    true
-}
+{}

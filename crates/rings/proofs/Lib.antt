@@ -1,3 +1,4 @@
+pub mod Seeking
 pub mod Turning
 pub mod Raising
 pub mod Ringing

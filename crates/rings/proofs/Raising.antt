@@ -1,57 +1,40 @@
 -- The elements before a place move up by one, from the last to the first. Assumes nothing.
-use Rattle.std.proofs.Common.{◌≡◌, ℕ, ◌+◌, ◌-◌, ◌<◌, ◌≤◌, ◌≢◌, List, [], ◌∷◌, length, get_or, take, drop, set, sym, refl, ap, ◌∙◌, inl, inr, arith, length-set}
+use Rattle.std.proofs.Common.{◌≡◌, ℕ, suc, ◌+◌, ◌-◌, ◌<◌, List, [], ◌∷◌, ◌++◌, length, get_or, take, drop, set, sym, refl, ap, ◌∙◌, arith}
 use Rattle.std.specs.List.{remove}
-use Rattle.std.proofs.lemmas.List.{same_lists, get_or-take, get_or_default, length-append, length-take-le, get_or_append_left, get_or-append_right, get_or-set_same, get_or-set_other}
-use Rattle.std.proofs.lemmas.List.Edits.{length-remove, get_or-remove_below, get_or-remove_above}
-use Rattle.std.proofs.lemmas.Bool.{cases_lt, cases_eq}
+use Rattle.std.proofs.lemmas.List.{append_assoc, length-take-le, get_or_append_left, get_or-take, set-append_left, take_all, take_more_set, take-take, length-set, drop_more, take-append-drop, drop-drop}
 use Rattle.rings.specs.Circles.{raised_up}
 
-module _ {X : Type 0} where
+module _ {X : Type 0} (xs : List X) (at : ℕ) where
   -- of xs, what stood from j on before the place `at` stands one place further
-  pub record Raised (xs ys : List X) (at j : ℕ) : Type 0 where
-    pub len : length ys ≡ length xs
-    pub below : (k : ℕ) (d : X) → k ≤ j → get_or ys k d ≡ get_or xs k d
-    pub moved : (k : ℕ) (d : X) → j ≤ k → k < at → get_or ys (k + 1) d ≡ get_or xs k d
-    pub above : (k : ℕ) (d : X) → at < k → get_or ys k d ≡ get_or xs k d
+  abbrev pub raised_from : ℕ → List X
+  raised_from j = take (j + 1) xs ++ remove (drop j xs) (at - j)
 
-  pub raised_none : (xs : List X) (at : ℕ) → Raised xs xs at at
-  raised_none xs at = record { len = refl; below = λ k d l. refl; moved = λ k d l m. absurd (omega arith); above = λ k d l. refl }
+  pub raised_none : xs ≡ raised_from at
+  raised_none =
+      let none : at - at ≡ 0 = omega arith in
+      sym (take-append-drop (at + 1) xs)
+      ∙ ap (λ zs. take (at + 1) xs ++ zs) (sym (drop-drop 1 at xs) ∙ ap (remove (drop at xs)) (sym none))
 
   -- x, which stands at i, is written behind it
-  pub raised_more : (xs ys zs : List X) (at i : ℕ) (x : X) → i < at → at < length xs → x ≡ get_or ys i x → zs ≡ set ys (i + 1) x → Raised xs ys at (i + 1) → Raised xs zs at i
-  raised_more xs ys zs at i x h within read e r =
-      let fits : i + 1 < length ys = omega (arith, r.len) in
-      let is : (d : X) → x ≡ get_or xs i d = λ d. read ∙ get_or_default ys i x d (omega arith) ∙ r.below i d (omega arith) in
-      let other : (k : ℕ) (d : X) → (k ≡ i + 1 → ⊥) → get_or zs k d ≡ get_or ys k d = λ k d n. ap (λ ws. get_or ws k d) e ∙ get_or-set_other ys (i + 1) k x d n in
-      record {
-        len = ap length e ∙ length-set ys (i + 1) x ∙ r.len;
-        below = λ k d l. other k d (λ z. omega arith) ∙ r.below k d (omega arith);
-        moved = λ k d l m. elim (cases_eq k i) [
-          | inl same ↦ ap (λ z. get_or zs (z + 1) d) same ∙ ap (λ ws. get_or ws (i + 1) d) e ∙ get_or-set_same ys (i + 1) x d fits ∙ is d ∙ ap (λ z. get_or xs z d) (sym same)
-          | inr apart ↦ let q : k ≢ i = apart in other (k + 1) d (λ z. omega arith) ∙ r.moved k d (omega arith) m
-        ];
-        above = λ k d l. other k d (λ z. omega arith) ∙ r.above k d l;
-      }
+  pub raised_more : (i : ℕ) (x : X) → i < at → at < length xs → x ≡ get_or (raised_from (i + 1)) i x → set (raised_from (i + 1)) (i + 1) x ≡ raised_from i
+  raised_more i x h within read =
+      let front : length (take (i + 1 + 1) xs) ≡ i + 1 + 1 = length-take-le (i + 1 + 1) xs (omega arith) in
+      let is : x ≡ get_or xs i x = read ∙ get_or_append_left (take (i + 1 + 1) xs) (remove (drop (i + 1) xs) (at - (i + 1))) x i (omega (arith, front)) ∙ get_or-take (i + 1 + 1) xs i x (omega arith) in
+      let written : set (take (i + 1 + 1) xs) (i + 1) x ≡ take (i + 1) xs ++ (x ∷ []) =
+      sym (take_all (i + 1 + 1) (set (take (i + 1 + 1) xs) (i + 1) x) (omega (arith, front, length-set (take (i + 1 + 1) xs) (i + 1) x)))
+      ∙ take_more_set (take (i + 1 + 1) xs) (i + 1) x (omega (arith, front))
+      ∙ ap (λ zs. zs ++ (x ∷ [])) (take-take (i + 1) (i + 1 + 1) xs (omega arith))
+      in
+      let next : at - i ≡ suc (at - (i + 1)) = omega arith in
+      let tail : x ∷ remove (drop (i + 1) xs) (at - (i + 1)) ≡ remove (drop i xs) (at - i) =
+      sym (ap (λ zs. remove zs (at - i)) (drop_more xs i x (omega arith) ∙ ap (λ y. y ∷ drop (i + 1) xs) (sym is)) ∙ ap (remove (x ∷ drop (i + 1) xs)) next)
+      in
+      set-append_left (take (i + 1 + 1) xs) (remove (drop (i + 1) xs) (at - (i + 1))) (i + 1) x (omega (arith, front))
+      ∙ (λ j. written j ++ remove (drop (i + 1) xs) (at - (i + 1)))
+      ∙ append_assoc (take (i + 1) xs) (x ∷ []) (remove (drop (i + 1) xs) (at - (i + 1)))
+      ∙ ap (λ zs. take (i + 1) xs ++ zs) tail
 
-  pub raised_all : (xs ys : List X) (at : ℕ) → at < length xs → Raised xs ys at 0 → ys ≡ raised_up at xs
-  raised_all xs ys at within r =
-      let one : length (take 1 xs) ≡ 1 = length-take-le 1 xs (omega arith) in
-      let lens : length ys ≡ length (raised_up at xs) = omega (arith, r.len, length-append (take 1 xs) (remove xs at), one, length-remove xs at within) in
-      same_lists ys (raised_up at xs) lens (λ k d b. elim (cases_eq k 0) [
-        | inl e ↦
-            ap (λ z. get_or ys z d) e ∙ r.below 0 d (omega arith) ∙ sym (ap (λ z. get_or (raised_up at xs) z d) e ∙ get_or_append_left (take 1 xs) (remove xs at) d 0 (omega arith) ∙ get_or-take 1 xs 0 d (omega arith))
-        | inr n ↦
-            let j = k - 1 in
-            let some : k ≢ 0 = n in
-            let up : k ≡ (k - 1) + 1 = omega arith in
-            let right : get_or (raised_up at xs) k d ≡ get_or (remove xs at) (k - 1) d = get_or-append_right (take 1 xs) (remove xs at) 1 k d one (omega arith) in
-            elim (cases_lt (k - 1) at) [
-              | inl l ↦ ap (λ z. get_or ys z d) up ∙ r.moved (k - 1) d (omega arith) l ∙ sym (right ∙ get_or-remove_below xs at d (k - 1) l within)
-              | inr l ↦ r.above k d (omega arith) ∙ sym (right ∙ get_or-remove_above xs at d (k - 1) l within ∙ ap (λ z. get_or xs z d) (sym up))
-            ]
-      ])
-
-  -- without the first, what is left is the list without the element at the place
-  pub drop_raised : (xs : List X) (at : ℕ) → 0 < length xs → drop 1 (raised_up at xs) ≡ remove xs at
-  drop_raised [] at h = absurd (omega arith)
-  drop_raised (x ∷ xs) at h = refl
+-- without the first, what is left is the list without the element at the place
+pub drop_raised : {X : Type 0} (xs : List X) (at : ℕ) → 0 < length xs → drop 1 (raised_up at xs) ≡ remove xs at
+drop_raised [] at h = absurd (omega arith)
+drop_raised (x ∷ xs) at h = refl

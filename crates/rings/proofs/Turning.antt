@@ -1,7 +1,7 @@
 -- Turned lists: their length, reads, writes, and one step on. Assumes nothing.
 use Rattle.std.proofs.Common.{◌≡◌, ℕ, ◌+◌, ◌-◌, ◌<◌, ◌≤◌, ltb, List, [], ◌∷◌, ◌++◌, length, get_or, take, drop, set, sym, ap, ◌∙◌, inl, inr, arith}
 use lib.Seq.{take-set-lt}
-use Rattle.std.proofs.lemmas.List.{length-take, length-drop, length-append, get_or-take, get_or-drop, get_or_append_left, get_or-append_right, set-append_left, set-append_right, drop-set-add, drop-set-lt, take-set-le, drop_more, drop_all, take_more, take_all, append_assoc, append-nil}
+use Rattle.std.proofs.lemmas.List.{length-take, length-drop, length-append, get_or-take, get_or-drop, length-take-le, get_or_append_left, get_or-append_right, set-append_left, set-append_right, drop-set-add, drop-set-lt, take-set-le, drop_more, drop_all, take_more, take_all, append_assoc, append-nil}
 use Rattle.std.proofs.lemmas.Bool.{cases_lt, lt-ltb, le-ltb, cond-true, cond-false}
 use Rattle.rings.specs.Circles.{turned, spot, next}
 
@@ -10,12 +10,6 @@ spot-before n s i h = cond-true (ltb i (n - s)) (s + i) (i - (n - s)) (lt-ltb i 
 
 pub spot-behind : (n s i : ℕ) → n - s ≤ i → spot n s i ≡ i - (n - s)
 spot-behind n s i h = cond-false (ltb i (n - s)) (s + i) (i - (n - s)) (le-ltb i (n - s) h)
-
-pub next-within : (n s : ℕ) → s < n → next n s < n
-next-within n s h = elim (cases_lt s (n - 1)) [
-  | inl l ↦ omega (arith, cond-true (ltb s (n - 1)) (s + 1) 0 (lt-ltb s (n - 1) l))
-  | inr l ↦ omega (arith, cond-false (ltb s (n - 1)) (s + 1) 0 (le-ltb s (n - 1) l))
-]
 
 module _ {X : Type 0} where
   pub length-turned : (s : ℕ) (xs : List X) → length (turned s xs) ≡ length xs
@@ -40,6 +34,23 @@ module _ {X : Type 0} where
         ∙ (λ j. drop-set-lt s xs k x low j ++ take-set-lt s xs k x low j)
         ∙ sym (set-append_right (drop s xs) (take s xs) (length xs - s) i x (length-drop s xs) b)
   ]
+
+  -- the first w of a list as a circle
+  module _ (w s : ℕ) (xs : List X) (few : w ≤ length xs) (inside : s < w) where
+    short : length (take w xs) ≡ w
+    short = length-take-le w xs few
+
+    pub length_circle : length (turned s (take w xs)) ≡ w
+    length_circle = length-turned s (take w xs) ∙ short
+
+    pub get_or-circle : (i : ℕ) (d : X) → i < w → spot w s i < w → get_or xs (spot w s i) d ≡ get_or (turned s (take w xs)) i d
+    get_or-circle i d h l =
+        sym (get_or-turned s (take w xs) i d (omega (arith, short)) (omega (arith, short)) ∙ ap (λ n. get_or (take w xs) (spot n s i) d) short ∙ get_or-take w xs (spot w s i) d l)
+
+    pub circle_set : (i : ℕ) (x : X) → i < w → spot w s i < w → turned s (take w (set xs (spot w s i) x)) ≡ set (turned s (take w xs)) i x
+    circle_set i x h l =
+        ap (turned s) (take-set-lt w xs (spot w s i) x l ∙ ap (λ n. set (take w xs) (spot n s i) x) (sym short))
+        ∙ turned_set s (take w xs) i x (omega (arith, short)) (omega (arith, short))
 
   -- one step on, the first element comes last
   pub turned-next : (s : ℕ) (xs : List X) (d : X) → s < length xs → turned (next (length xs) s) xs ≡ drop 1 (turned s xs) ++ (get_or xs s d ∷ [])

@@ -1,5 +1,5 @@
 -- What a ring lists, oldest first, and what its memory holds once a row is taken out. Assumes nothing.
-use Rattle.std.specs.Prelude.{◌≡◌, ℕ, min, Bool, cond, List, length, take, drop, MatchOption, nat_lt}
+use Rattle.std.specs.Prelude.{◌≡◌, ℕ, min, Bool, List, length, take, drop, MatchOption}
 use Rattle.rows.specs.Searches.{place_from}
 use Rattle.rings.specs.declared.ring.Ring.{Ring}
 use Rattle.rings.specs.Circles.{turned, spot, raised_up}
@@ -10,11 +10,11 @@ room {most = most} r = min (length r.rows.now) most
 
 -- how many rows are in use
 abbrev pub filled : {X : Type 0} {most : ℕ} → Ring X most → ℕ
-filled r = min r.used (room r)
+filled r = r.used
 
 -- where the oldest lies
 abbrev pub start : {X : Type 0} {most : ℕ} → Ring X most → ℕ
-start r = cond (nat_lt r.first (room r)) r.first 0
+start r = r.first
 
 -- the rows that a ring goes round, of its memory, from the oldest on
 abbrev pub circle : {X : Type 0} {most : ℕ} → Ring X most → List X → List X

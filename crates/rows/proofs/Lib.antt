@@ -1,4 +1,3 @@
 pub mod Searching
 pub mod Counting
 pub mod Closing
-pub mod Traying

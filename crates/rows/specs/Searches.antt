@@ -1,15 +1,14 @@
 -- The first element that passes a test, its place, and the list without it. Assumes nothing.
-use Rattle.std.specs.Prelude.{ℕ, ◌+◌, Bool, cond, List, [], ◌∷◌, Some, None, Option}
+use Rattle.std.specs.Prelude.{ℕ, ◌+◌, Bool, cond, List, [], ◌∷◌, find, Option}
+use Rattle.std.specs.List.{position_from}
 
 -- the place of the first that passes, where the list begins at place n
 abbrev pub place_from : {X : Type 0} → ℕ → (X → Bool) → List X → Option ℕ
-place_from n p [] = None
-place_from n p (x ∷ xs) = cond (p x) (Some n) (place_from (n + 1) p xs)
+place_from n p xs = position_from p n xs
 
 -- the first that passes
 abbrev pub found : {X : Type 0} → (X → Bool) → List X → Option X
-found p [] = None
-found p (x ∷ xs) = cond (p x) (Some x) (found p xs)
+found p xs = find p xs
 
 -- all but the first that passes, in order
 abbrev pub without : {X : Type 0} → (X → Bool) → List X → List X

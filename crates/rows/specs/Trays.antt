@@ -10,7 +10,7 @@ room {most = most} t = min (length t.rows.now) most
 
 -- how many rows are in use
 abbrev pub filled : {X : Type 0} {most : ℕ} → Tray X most → ℕ
-filled t = min t.used (room t)
+filled t = t.used
 
 -- the rows in use, in order
 abbrev pub listed : {X : Type 0} {most : ℕ} → Tray X most → List X

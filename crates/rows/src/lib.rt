@@ -4,4 +4,5 @@
 pub mod laws;
 pub mod row;
 pub mod search;
+pub mod store;
 pub mod tray;

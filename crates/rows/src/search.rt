@@ -9,33 +9,20 @@ pub fn first<R: Row>(rows: &[R], question: &R::Question) -> Option<usize>
     ensures place { result ≡ place_from 0 (λ x. R.hit x question.now) rows.now }
     ensures within { IfSome result (λ i. i < length rows.now) }
 {
-    for (i, row) in rows.iter().enumerate() {
-        if row.answers(question) {
-            return Some(i);
-        }
-    }
-    None
+    rows.iter().position(|row| row.answers(question))
 }
 
 /// How many rows answer.
+#[tactic(auto, using(crate::proofs::Counting::many_counts))]
 pub fn count<R: Row>(rows: &[R], question: &R::Question) -> usize
     ensures { result ≡ many (λ x. R.hit x question.now) rows.now }
 {
-    let mut answering = 0;
-    for row in rows {
-        if row.answers(question) {
-            answering += 1;
-        }
-    }
-    answering
+    rows.iter().filter(|row| row.answers(question)).count()
 }
 
 /// How many rows the search looks at: those up to the first that answers, or all where none does.
 pub fn visits<R: Row>(rows: &[R], question: &R::Question) -> usize
     ensures { result ≡ visited (λ x. R.hit x question.now) rows.now }
 {
-    match first(rows, question) {
-        Some(at) => at + 1,
-        None => rows.len(),
-    }
+    first(rows, question).map_or(rows.len(), |at| at + 1)
 }

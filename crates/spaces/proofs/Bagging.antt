@@ -2,11 +2,9 @@
 use Rattle.std.proofs.Common.{◌≡◌, ℕ, ◌<◌, ◌≤◌, true, eqb, leb, List, Ok, Err, Decides, sym, refl, ap, arith}
 use Rattle.std.proofs.lemmas.Bool.{eqb-true, le-leb, lt-ltb, le-ltb, and_parts}
 use Rattle.std.proofs.lemmas.Bool.Decides.{Decides-and, Decides-like, Decides-eqb}
-use Rattle.tuples.specs.declared.tuple.Tuple.{Tuple}
-use Rattle.tuples.specs.declared.template.Template.{Template}
-use Rattle.tuples.specs.Tuples.{same_tuple}
+use Rattle.tuples.specs.Tuples.{Tuple, Template, same_tuple}
 use Rattle.tuples.specs.Matching.{matches}
-use Rattle.tuples.specs.Padding.{same_tuple-decides}
+use Rattle.tuples.proofs.Padding.{same_tuple-decides}
 use Rattle.rows.specs.Bags.{once, many, Same, Gains}
 use Rattle.rows.proofs.Counting.{many_implied, same-from-copies}
 use Rattle.spaces.specs.declared.space.PutRefusal.TheVariants.{NoSuchSite, Full}

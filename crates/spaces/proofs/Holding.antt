@@ -1,17 +1,16 @@
 -- Rows that hold tuples, as the bag of what they hold. Assumes nothing.
-use Rattle.std.proofs.Common.{◌≡◌, ℕ, ◌+◌, Bool, true, ◌&&◌, eqb, List, [], ◌∷◌, ◌++◌, map, Some, None, sym, refl, ap, ◌∙◌}
+use Rattle.std.proofs.Common.{◌≡◌, ℕ, ◌+◌, ◌<◌, Bool, true, ◌&&◌, eqb, List, [], ◌∷◌, ◌++◌, map, Some, None, Option, option_map, MatchOption, sym, refl, ap, ◌∙◌}
 use Rattle.std.proofs.lemmas.Bool.{eqb-true, and_parts}
-use Rattle.tuples.specs.declared.site.Site.{Site}
-use Rattle.tuples.specs.declared.tuple.Tuple.{Tuple}
-use Rattle.tuples.specs.declared.template.Template.{Template}
+use Rattle.tuples.specs.Numbers.{Site}
+use Rattle.tuples.specs.Tuples.{Tuple, Template}
 use Rattle.tuples.specs.Matching.{matches}
 use Rattle.rows.specs.Bags.{once, many, Same, Gains}
 use Rattle.rows.specs.Searches.{found, without}
-use Rattle.rows.proofs.Counting.{many-map, gains_last, found-passes, found_gains, none_many}
+use Rattle.rows.proofs.Counting.{many-map, gains_last, found-passes, found_gains, none_many, none_without}
 use Rattle.spaces.specs.declared.held.Held.{Held}
-use Rattle.spaces.specs.Spaces.{at, hits}
+use Rattle.spaces.specs.Spaces.{at, hits, copies}
 use Rattle.spaces.specs.TraySpaces.{located}
-use Rattle.spaces.proofs.Bagging.{located-told}
+use Rattle.spaces.proofs.Bagging.{located-told, gains_copies}
 
 -- whether a row lies at the site and the template matches it
 abbrev pub holds : Site → Template → Held → Bool
@@ -46,3 +45,13 @@ none_at s m n xs e f = sym (count_at s m n xs e) ∙ none_many (holds s m) xs (s
 
 pub same_rows : (xs ys : List Held) → ys ≡ xs → Same (map located xs) (map located ys)
 same_rows xs ys e p = ap (λ zs. many p (map located zs)) e
+
+-- what is found among the rows, as the tuple that it holds, and what the rows hold then
+pub told_found : (s : Site) (m : Template) (n : ℕ) (xs ys : List Held) (x : Option Held) → s.number ≡ n → x ≡ found (holds s m) xs → ys ≡ without (holds s m) xs → MatchOption (option_map (λ y. y.tuple) x) ((many (hits n m) (map located xs) ≡ 0) × Same (map located xs) (map located ys)) (λ t. (matches m t ≡ true) × Gains (at n t) (map located ys) (map located xs))
+told_found s m n xs ys None e f w = (none_at s m n xs e f, same_rows xs ys (w ∙ none_without (holds s m) xs (sym f)))
+told_found s m n xs ys (Some x) e f w = let t = found_at s m n x xs ys e f w in (t.matched, t.gained)
+
+-- what is found among the rows, as a tuple of which there are copies
+pub told_seen : (s : Site) (m : Template) (n : ℕ) (xs : List Held) (x : Option Held) → s.number ≡ n → x ≡ found (holds s m) xs → MatchOption (option_map (λ y. y.tuple) x) (many (hits n m) (map located xs) ≡ 0) (λ t. (matches m t ≡ true) × (0 < copies (map located xs) n t))
+told_seen s m n xs None e f = none_at s m n xs e f
+told_seen s m n xs (Some x) e f = let t = found_at s m n x xs _ e f refl in (t.matched, gains_copies n x.tuple _ _ t.gained)

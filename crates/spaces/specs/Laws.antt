@@ -1,6 +1,6 @@
 -- The laws of spaces that contracts name. Assumes nothing.
 use Rattle.std.specs.Prelude.{◌≡◌, ℕ, List}
-use Rattle.tuples.specs.declared.tuple.Tuple.{Tuple}
+use Rattle.tuples.specs.Tuples.{Tuple}
 use Rattle.rows.specs.Bags.{Same}
 use Rattle.spaces.specs.Spaces.{Located, copies}
 

@@ -1,8 +1,6 @@
 -- A space as a bag: the copies of each tuple at each site. Assumes nothing.
 use Rattle.std.specs.Prelude.{◌≡◌, ℕ, ◌≤◌, Bool, ◌&&◌, List, length, ◌==◌, nat_le}
-use Rattle.tuples.specs.declared.tuple.Tuple.{Tuple}
-use Rattle.tuples.specs.declared.template.Template.{Template}
-use Rattle.tuples.specs.Tuples.{same_tuple}
+use Rattle.tuples.specs.Tuples.{Tuple, Template, same_tuple}
 use Rattle.tuples.specs.Matching.{matches}
 use Rattle.rows.specs.Bags.{many}
 

@@ -22,16 +22,10 @@ mod tests {
 
     #[test]
     fn values_print_by_number(rt: HostRuntime) -> Result<(), Fail> {
-        let Some(word) = Word::new(127) else {
-            return Err(Fail::new("no word"));
-        };
-        let Some(site) = Site::new(31) else {
-            return Err(Fail::new("no site"));
-        };
+        let word = Word::new(127).unwrap();
+        let site = Site::new(31).unwrap();
         let fields = [Field::Word(word), Field::Num(-7), Field::Site(site)];
-        let Some(tuple) = Tuple::new(&fields) else {
-            return Err(Fail::new("no tuple"));
-        };
+        let tuple = Tuple::new(&fields).unwrap();
         assert!(rt; format!(in rt.alloc(); "{tuple}")?.as_str() == "(w127, -7, s31)");
         let places = [
             Place::Actual(Field::Num(7)),
@@ -39,9 +33,7 @@ mod tests {
             Place::Formal(FieldType::Word),
             Place::Formal(FieldType::Site),
         ];
-        let Some(template) = Template::new(&places) else {
-            return Err(Fail::new("no template"));
-        };
+        let template = Template::new(&places).unwrap();
         assert!(rt; format!(in rt.alloc(); "{template}")?.as_str() == "(7, !num, !word, !site)");
         Ok(())
     }
@@ -57,13 +49,9 @@ mod tests {
     }
 
     #[test]
-    fn spaces_keep_their_limit(rt: HostRuntime) -> Result<(), Fail> {
-        let Some(site) = Site::new(0) else {
-            return Err(Fail::new("no site"));
-        };
-        let Some(tuple) = Tuple::new(&[Field::Num(1)]) else {
-            return Err(Fail::new("no tuple"));
-        };
+    fn spaces_keep_their_limit(rt: HostRuntime) {
+        let site = Site::new(0).unwrap();
+        let tuple = Tuple::new(&[Field::Num(1)]).unwrap();
         let mut none: [Held; 0] = [];
         let mut empty: HeldTray = Tray::over(&mut none);
         assert_eq!(rt; empty.put(0, tuple), Err(PutRefusal::Full));
@@ -76,6 +64,5 @@ mod tests {
         assert_eq!(rt; wide.put(31, tuple), Err(PutRefusal::Full));
         assert_eq!(rt; wide.put(32, tuple), Err(PutRefusal::NoSuchSite));
         assert_eq!(rt; wide.size(), 4096);
-        Ok(())
     }
 }

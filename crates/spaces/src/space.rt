@@ -3,7 +3,9 @@ ghost use Rattle.tuples.specs.Matching.{matches};
 ghost use Rattle.rows.specs.Bags.{many, Same, Gains};
 ghost use Rattle.spaces.specs.Spaces.{Located, Bounded, at, hits, copies};
 ghost use Rattle.spaces.specs.Answers.{put_answer};
+ghost use Rattle.spaces.specs.declared.space.PutRefusal.TheVariants as refusal;
 
+use rows::tray::Full;
 use tuples::template::Template;
 use tuples::tuple::Tuple;
 
@@ -12,6 +14,14 @@ use tuples::tuple::Tuple;
 pub enum PutRefusal {
     NoSuchSite,
     Full,
+}
+
+impl From<Full> for PutRefusal {
+    ghost from_gives = { λ _ e. e ≡ refusal.Full };
+
+    fn from(_full: Full) -> PutRefusal {
+        PutRefusal::Full
+    }
 }
 
 /// A tuple space: copies of tuples at sites, up to a limit.

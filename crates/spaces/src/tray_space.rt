@@ -4,6 +4,7 @@ ghost use Rattle.spaces.specs.TraySpaces.{located, tray_bounded};
 
 use crate::held::{Held, Wanted};
 use crate::space::{PutRefusal, Space};
+use rows::store::Store;
 use rows::tray::Tray;
 use tuples::site::Site;
 use tuples::template::Template;
@@ -20,62 +21,49 @@ impl<'a> Space for Tray<'a, Held, 4096> {
     ghost bounded = { λ s. tray_bounded s };
 
     fn limit(&self) -> usize {
-        Tray::limit(self)
+        Store::limit(self)
     }
 
     fn clear(&mut self) {
-        Tray::clear(self);
+        Store::clear(self);
     }
 
     fn size(&self) -> usize {
-        Tray::len(self)
+        Store::len(self)
     }
 
     fn put(&mut self, site: usize, tuple: Tuple) -> Result<(), PutRefusal> {
-        let Some(to) = Site::new(site) else {
-            return Err(PutRefusal::NoSuchSite);
-        };
-        match Tray::add(self, Held { site: to, tuple }) {
-            Ok(()) => Ok(()),
-            Err(_) => Err(PutRefusal::Full),
-        }
+        let to = Site::new(site).ok_or(PutRefusal::NoSuchSite)?;
+        Store::add(self, Held { site: to, tuple })?;
+        Ok(())
     }
 
     fn take(&mut self, site: usize, template: &Template) -> Option<Tuple> {
-        let template = *template;
-        let Some(from) = Site::new(site) else {
-            return None;
-        };
+        let from = Site::new(site)?;
         let question = Wanted {
             site: from,
-            template,
+            template: *template,
         };
-        match Tray::take(self, &question) {
-            Some(row) => Some(row.tuple),
-            None => None,
-        }
+        Store::take(self, &question).map(|row| row.tuple)
     }
 
     fn peek(&self, site: usize, template: &Template) -> Option<Tuple> {
-        let template = *template;
-        let Some(here) = Site::new(site) else {
-            return None;
-        };
+        let here = Site::new(site)?;
         let question = Wanted {
             site: here,
-            template,
+            template: *template,
         };
-        match Tray::peek(self, &question) {
-            Some(row) => Some(row.tuple),
-            None => None,
-        }
+        Tray::peek(self, &question).map(|row| row.tuple)
     }
 
     fn count(&self, site: usize, template: &Template) -> usize {
-        let template = *template;
-        match Site::new(site) {
-            Some(site) => Tray::count(self, &Wanted { site, template }),
-            None => 0,
-        }
+        let Some(here) = Site::new(site) else {
+            return 0;
+        };
+        let question = Wanted {
+            site: here,
+            template: *template,
+        };
+        Tray::count(self, &question)
     }
 }

@@ -2,29 +2,21 @@
 ghost use Rattle.syntax.specs.Grammar.{Exact, Refused, Decided, Unique};
 
 /// The machine accepts exactly the nets within the limits.
-pub fn exact_stands() -> u8
+pub fn exact_stands()
     ensures { Exact }
-{
-    0
-}
+{}
 
 /// Exactly the first token at fault is refused, with the number of its fault.
-pub fn refused_stands() -> u8
+pub fn refused_stands()
     ensures { Refused }
-{
-    0
-}
+{}
 
 /// Each list of tokens is accepted or refused.
-pub fn decided_stands() -> u8
+pub fn decided_stands()
     ensures { Decided }
-{
-    0
-}
+{}
 
 /// A list of tokens has at most one tree.
-pub fn unique_stands() -> u8
+pub fn unique_stands()
     ensures { Unique }
-{
-    0
-}
+{}

@@ -1,1 +1,4 @@
+pub mod Sameness
+pub mod Padding
 pub mod Places
+pub mod Equality

@@ -5,12 +5,10 @@ use Rattle.std.proofs.lemmas.Bool.{and_parts, and_from, false≢true}
 use Rattle.tuples.specs.declared.field.Field.{Field}
 use Rattle.tuples.specs.declared.place.Place.{Place}
 use Rattle.tuples.specs.declared.place.Place.TheVariants.{Actual, Formal}
-use Rattle.tuples.specs.declared.tuple.Tuple.{Tuple}
-use Rattle.tuples.specs.declared.template.Template.{Template}
 use Rattle.tuples.specs.Values.{type_of}
-use Rattle.tuples.specs.Tuples.{fields_of, places_of}
+use Rattle.tuples.specs.Tuples.{Tuple, Template, fields_of, places_of}
 use Rattle.tuples.specs.Matching.{accepts, accepts_all, matches, Accepts, Matches}
-use Rattle.tuples.specs.Sameness.{same_field-decides, same_type-decides}
+use Rattle.tuples.proofs.Sameness.{same_field-decides, same_type-decides}
 
 and_false : (b : Bool) → (b && false) ≡ false
 and_false true = refl

@@ -1,6 +1,6 @@
+pub mod Numbers
+pub mod Fews
 pub mod Values
 pub mod Tuples
 pub mod Matching
 pub mod Laws
-pub mod Sameness
-pub mod Padding

@@ -3,10 +3,8 @@ use Rattle.std.specs.Prelude.{◌≡◌, ℕ, ◌<◌, Bool, true, false, ◌&&�
 use Rattle.tuples.specs.declared.field.Field.{Field}
 use Rattle.tuples.specs.declared.place.Place.{Place}
 use Rattle.tuples.specs.declared.place.Place.TheVariants.{Actual, Formal}
-use Rattle.tuples.specs.declared.tuple.Tuple.{Tuple}
-use Rattle.tuples.specs.declared.template.Template.{Template}
 use Rattle.tuples.specs.Values.{type_of, same_type, same_field}
-use Rattle.tuples.specs.Tuples.{fields_of, places_of}
+use Rattle.tuples.specs.Tuples.{Tuple, Template, fields_of, places_of}
 
 -- an actual field accepts its equal alone, a formal each field of its type
 abbrev pub accepts : Place → Field → Bool

@@ -1,13 +1,12 @@
-ghost use Rattle.std.specs.Prelude.{◌≡◌, Decides};
-ghost use Rattle.tuples.specs.Values.{same_field, type_of};
-ghost use Rattle.tuples.specs.Sameness.{field_equivalence};
+ghost use Rattle.std.specs.Prelude.{◌≡◌};
+ghost use Rattle.tuples.specs.Values.{type_of};
 
 use crate::site::Site;
 use crate::word::Word;
 use std::fmt;
 
 /// A field of a tuple: a signed number of 32 bits, a word or a site.
-#[derive(Clone, Copy, Debug)]
+#[derive(Clone, Copy, Debug, PartialEq, Eq)]
 pub enum Field {
     Num(i32),
     Word(Word),
@@ -32,39 +31,6 @@ impl Field {
             Field::Word(_) => FieldType::Word,
             Field::Site(_) => FieldType::Site,
         }
-    }
-
-    fn same(self, other: Field) -> bool
-        ensures { result ≡ same_field self other }
-    {
-        match self {
-            Field::Num(a) => match other {
-                Field::Num(b) => a == b,
-                _ => false,
-            },
-            Field::Word(a) => match other {
-                Field::Word(b) => a == b,
-                _ => false,
-            },
-            Field::Site(a) => match other {
-                Field::Site(b) => a == b,
-                _ => false,
-            },
-        }
-    }
-}
-
-/// Two fields are equal if they agree in type and value.
-impl PartialEq for Field {
-    ghost eq = { same_field };
-
-    ghost laws = { field_equivalence };
-
-    fn eq(&self, other: &Field) -> bool
-        ensures same { result ≡ same_field self.now other.now }
-        ensures decides { Decides result (self.now ≡ other.now) }
-    {
-        self.same(*other)
     }
 }
 

@@ -1,9 +1,11 @@
 //! The values that agents exchange: words, sites, fields, tuples and templates, and matching.
 #![tactic(auto)]
 
+pub mod blank;
+pub mod few;
 pub mod field;
 pub mod laws;
-mod padded;
+pub mod numbered;
 pub mod place;
 pub mod site;
 pub mod template;

@@ -1,18 +1,28 @@
-ghost use Rattle.std.specs.Prelude.{◌≡◌, ℕ, ◌<◌, ◌≤◌, length, pos, slice_index_or};
-ghost use Rattle.tuples.specs.declared.field.Field.TheVariants.{Num};
-ghost use Rattle.tuples.specs.declared.place.Place.TheVariants.{Actual};
+ghost use Rattle.std.specs.Prelude.{◌≡◌};
+ghost use Rattle.tuples.specs.Matching.{matches};
 
+use crate::few::Few;
 use crate::place::Place;
+use crate::tuple::Tuple;
 
 /// A template of one to four places; those that it does not use hold the number 0.
-#[derive(Clone, Copy, Debug)]
-pub struct Template {
-    len: usize,
-    places: [Place; 4],
-    ghost some: { 1 ≤ len },
-    ghost few: { len ≤ 4 },
-    ghost four: { length places ≡ 4 },
-    ghost rest: { (k : ℕ) → len ≤ k → k < 4 → slice_index_or places k (Actual (Num (pos 0))) ≡ Actual (Num (pos 0)) },
-}
+pub type Template = Few<Place>;
 
-pub mod methods;
+impl Few<Place> {
+    /// Whether the template matches a tuple: both have equally many places, and each place accepts its opposite.
+    pub fn matches(&self, tuple: &Tuple) -> bool
+        ensures { result ≡ matches self.now tuple.now }
+    {
+        let places = self.items();
+        let fields = tuple.items();
+        if places.len() != fields.len() {
+            return false;
+        }
+        for (i, place) in places.iter().enumerate() {
+            if !place.accepts(fields[i]) {
+                return false;
+            }
+        }
+        true
+    }
+}

@@ -1,27 +1,29 @@
-ghost use Rattle.std.specs.Prelude.{◌≡◌, ℕ, ◌<◌, min, [], ◌∷◌, ◌++◌, length, IfSome, if◌then◌else◌, MatchBool, ◌≢◌, nat_lt};
+ghost use Rattle.std.specs.Prelude.{◌≡◌, ℕ, ◌<◌, ◌≤◌, min, [], ◌∷◌, ◌++◌, length, MatchResult, is_ok, ◌≢◌, nat_lt};
+ghost use Rattle.std.specs.Option.{option_map};
 ghost use Rattle.tuples.specs.Matching.{matches};
 ghost use Rattle.rows.specs.Bags.{many};
 ghost use Rattle.rows.specs.Searches.{found, without, visited};
-ghost use Rattle.chained.specs.Links.{rows_of, total, TuplesKept, TupleStored, BeyondKept};
+ghost use Rattle.chained.specs.Links.{rows_of, numbered, total, TuplesKept, TupleStored, BeyondKept, Kept};
 ghost use Rattle.chained.specs.Steps.{matches_at};
-ghost use Rattle.chained.specs.Chains.{memory, first_free, bag, chain_in, rows_in};
+ghost use Rattle.chained.specs.Chains.{memory, first_free, chain_in, rows_in, SameMemory};
 
+use crate::chain::Chain;
 use crate::chains::Chains;
+use crate::ends::{FREE, MOST_ROWS};
 use crate::free::freed;
-use crate::links::{count_matches, count_visits, first_match, store, transfer};
+use crate::links::transfer;
 use crate::row::ChainRow;
+use rows::tray::Full;
+use tuples::site::Site;
 use tuples::template::Template;
 use tuples::tuple::Tuple;
 
-const FREE: usize = 32;
-
 impl<'a> Chains<'a> {
     /// Links the rows of the caller's memory, whatever they hold, into the chain of free rows.
-    pub fn over(rows: &'a mut [ChainRow]) -> Chains<'a>
-        ensures empty { bag result ≡ [] }
+    pub(crate) fn over(rows: &'a mut [ChainRow]) -> Chains<'a>
+        ensures empty { (c : ℕ) → c < 32 → chain_in result c ≡ [] }
         ensures room { rows_in result ≡ min (length rows.old) 4096 }
-        ensures tuples { TuplesKept rows.old (memory result) }
-        ensures beyond { BeyondKept rows.old (memory result) }
+        ensures kept { Kept rows.old (memory result) }
         ensures lent { result.rows.ghost_name ≡ rows.entry.ghost_name }
     {
         let ends = freed(rows);
@@ -36,7 +38,7 @@ impl<'a> Chains<'a> {
     pub(crate) fn limit(&self) -> usize
         ensures { result ≡ rows_in self.now }
     {
-        self.rows.len().min(4096)
+        self.rows.len().min(MOST_ROWS)
     }
 
     /// How many rows lie in the chains of the sites.
@@ -49,10 +51,8 @@ impl<'a> Chains<'a> {
     /// Puts all rows into the chain of free rows.
     pub(crate) fn clear(&mut self)
         ensures empty { (c : ℕ) → c < 32 → chain_in self.new c ≡ [] }
-        ensures fixed { rows_in self.new ≡ rows_in self.old }
-        ensures tuples { TuplesKept (memory self.old) (memory self.new) }
-        ensures beyond { BeyondKept (memory self.old) (memory self.new) }
-        ensures lent { self.new.rows.ghost_name ≡ self.old.rows.ghost_name }
+        ensures kept { Kept (memory self.old) (memory self.new) }
+        ensures memory { SameMemory self.old self.new }
     {
         let Chains { rows, ends, used } = self;
         *ends = freed(rows);
@@ -60,84 +60,80 @@ impl<'a> Chains<'a> {
     }
 
     /// Lets the first free row hold the tuple and puts it at the end of the site's chain; refuses where no row is free.
-    pub(crate) fn put(&mut self, site: usize, tuple: Tuple) -> bool
-        requires { site < 32 }
-        ensures took { result ≡ nat_lt (total 32 (λ c. length (chain_in self.old c))) (rows_in self.old) }
-        ensures here { chain_in self.new site ≡ (if result then chain_in self.old site ++ (tuple ∷ []) else chain_in self.old site) }
-        ensures rest { (c : ℕ) → c < 32 → (c ≢ site) → chain_in self.new c ≡ chain_in self.old c }
-        ensures fixed { rows_in self.new ≡ rows_in self.old }
-        ensures tuples { MatchBool result (TupleStored (memory self.old) (memory self.new) (first_free self.old) tuple) (TuplesKept (memory self.old) (memory self.new)) }
+    pub(crate) fn put(&mut self, site: Site, tuple: Tuple) -> Result<(), Full>
+        ensures took { is_ok result ≡ nat_lt (total 32 (λ c. length (chain_in self.old c))) (rows_in self.old) }
+        ensures here { MatchResult result (λ _. chain_in self.new site.number ≡ chain_in self.old site.number ++ (tuple ∷ [])) (λ _. chain_in self.new site.number ≡ chain_in self.old site.number) }
+        ensures rest { (c : ℕ) → c < 32 → (c ≢ site.number) → chain_in self.new c ≡ chain_in self.old c }
+        ensures tuples { MatchResult result (λ _. TupleStored (memory self.old) (memory self.new) (first_free self.old) tuple) (λ _. TuplesKept (memory self.old) (memory self.new)) }
         ensures beyond { BeyondKept (memory self.old) (memory self.new) }
-        ensures lent { self.new.rows.ghost_name ≡ self.old.rows.ghost_name }
+        ensures memory { SameMemory self.old self.new }
     {
         let free = self.ends[FREE];
         if free.many == 0 {
-            return false;
+            return Err(Full);
         }
         let Chains { rows, ends, used } = self;
-        transfer(rows, ends, FREE, free.first, site);
-        store(rows, free.first, tuple);
+        transfer(rows, ends, FREE, free.first, site.number());
+        rows[free.first as usize].tuple = tuple;
         *used += 1;
-        true
+        Ok(())
     }
 
     /// Takes the first row of the site's chain whose tuple the template matches out, and puts it at the end of the chain of free rows.
-    pub(crate) fn take(&mut self, site: usize, template: &Template) -> Option<Tuple>
-        requires { site < 32 }
-        ensures got { result ≡ found (matches template.now) (chain_in self.old site) }
-        ensures here { chain_in self.new site ≡ without (matches template.now) (chain_in self.old site) }
-        ensures rest { (c : ℕ) → c < 32 → (c ≢ site) → chain_in self.new c ≡ chain_in self.old c }
-        ensures fixed { rows_in self.new ≡ rows_in self.old }
-        ensures tuples { TuplesKept (memory self.old) (memory self.new) }
-        ensures beyond { BeyondKept (memory self.old) (memory self.new) }
-        ensures lent { self.new.rows.ghost_name ≡ self.old.rows.ghost_name }
+    pub(crate) fn take(&mut self, site: Site, template: &Template) -> Option<Tuple>
+        ensures got { result ≡ found (matches template.now) (chain_in self.old site.number) }
+        ensures here { chain_in self.new site.number ≡ without (matches template.now) (chain_in self.old site.number) }
+        ensures rest { (c : ℕ) → c < 32 → (c ≢ site.number) → chain_in self.new c ≡ chain_in self.old c }
+        ensures kept { Kept (memory self.old) (memory self.new) }
+        ensures memory { SameMemory self.old self.new }
     {
-        let Some(at) = self.find(site, template) else {
-            return None;
-        };
-        let row = self.rows[at as usize];
+        let (at, tuple) = self.find(site, template)?;
+        let tuple = *tuple;
         let Chains { rows, ends, used } = self;
-        transfer(rows, ends, site, at, FREE);
+        transfer(rows, ends, site.number(), at, FREE);
         *used -= 1;
-        Some(row.tuple)
+        Some(tuple)
     }
 
     /// The tuple of the first row of the site's chain that the template matches.
-    pub(crate) fn peek(&self, site: usize, template: &Template) -> Option<Tuple>
-        requires { site < 32 }
-        ensures { result ≡ found (matches template.now) (chain_in self.now site) }
+    pub(crate) fn peek(&self, site: Site, template: &Template) -> Option<Tuple>
+        ensures { result ≡ found (matches template.now) (chain_in self.now site.number) }
     {
-        match self.find(site, template) {
-            Some(at) => {
-                let row = self.rows[at as usize];
-                Some(row.tuple)
-            }
-            None => None,
-        }
-    }
-
-    /// The first row of the site's chain whose tuple the template matches.
-    fn find(&self, site: usize, template: &Template) -> Option<u16>
-        requires { site < 32 }
-        ensures place { result ≡ found (matches_at (memory self.now) template.now) (rows_of (memory self.now) self.now.ends site) }
-        ensures within { IfSome result (λ i. i < rows_in self.now) }
-    {
-        first_match(self.rows, self.ends[site], template)
+        self.find(site, template).map(|(_, tuple)| *tuple)
     }
 
     /// How many tuples of the site's chain the template matches.
-    pub(crate) fn count(&self, site: usize, template: &Template) -> usize
-        requires { site < 32 }
-        ensures { result ≡ many (matches template.now) (chain_in self.now site) }
+    pub(crate) fn count(&self, site: Site, template: &Template) -> usize
+        ensures { result ≡ many (matches template.now) (chain_in self.now site.number) }
     {
-        count_matches(self.rows, self.ends[site], template)
+        self.chain(site)
+            .filter(|(_, tuple)| template.matches(tuple))
+            .count()
     }
 
-    /// How many rows of the site's chain a take or a peek looks at.
-    pub(crate) fn visits(&self, site: usize, template: &Template) -> usize
-        requires { site < 32 }
-        ensures { result ≡ visited (matches template.now) (chain_in self.now site) }
+    /// How many rows of the site's chain a take or a peek looks at: those up to the first that matches, or all of them.
+    pub(crate) fn visits(&self, site: Site, template: &Template) -> usize
+        ensures { result ≡ visited (matches template.now) (chain_in self.now site.number) }
     {
-        count_visits(self.rows, self.ends[site], template)
+        let all = self.ends[site.number()].many as usize;
+        self.chain(site)
+            .position(|(_, tuple)| template.matches(tuple))
+            .map_or(all, |at| at + 1)
+    }
+
+    /// The first row of the site's chain whose tuple the template matches, with that tuple.
+    fn find(&self, site: Site, template: &Template) -> Option<(u16, &Tuple)>
+        ensures place { option_map (λ x. x.0) result ≡ found (matches_at (memory self.now) template.now) (rows_of (memory self.now) self.now.ends site.number) }
+        ensures tuple { option_map (λ x. x.1.now) result ≡ found (matches template.now) (chain_in self.now site.number) }
+    {
+        self.chain(site).find(|(_, tuple)| template.matches(tuple))
+    }
+
+    /// The site's chain, from its first row on.
+    fn chain(&self, site: Site) -> Chain<'_>
+        ensures rows { result ≡ numbered (memory self.now) (rows_of (memory self.now) self.now.ends site.number) }
+        ensures few { length result ≤ 4096 }
+    {
+        Chain::between(self.rows, self.ends[site.number()])
     }
 }

@@ -1,7 +1,8 @@
-use Rattle.std.proofs.Common.{sym, subst}
-use Rattle.grammar.specs.Judged.{Judged}
 use Rattle.grammar.proofs.Judge.{judged}
 use Rattle.grammar.proofs.net.check.Goals as goal
 
-pub returns : goal.returns
-returns c = let e = c.read_text.ensures in record { is = e; judged = subst (Judged c.args.text.now) (sym e) (judged c.args.text.now) }
+pub returns-in-Ok-clause-judged : goal.returns-in-Ok-clause-judged
+returns-in-Ok-clause-judged c = rw c.in-Ok.ensures (judged c.args.text.now)
+
+pub returns-in-Err-clause-judged : goal.returns-in-Err-clause-judged
+returns-in-Err-clause-judged c = rw (c.number.ensures, c.in-Err.ensures) (judged c.args.text.now)

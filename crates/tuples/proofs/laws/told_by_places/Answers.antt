@@ -1,4 +1,4 @@
-use Rattle.tuples.specs.Padding.{tuple_told, template_told}
+use Rattle.tuples.proofs.Padding.{tuple_told, template_told}
 use Rattle.tuples.proofs.laws.told_by_places.Goals as goal
 
 pub returns : goal.returns

@@ -1,16 +1,12 @@
-use Rattle.std.proofs.Common.{◌∙◌, arith}
-use Rattle.chained.specs.Links.{rows_of}
-use Rattle.chained.proofs.Moving.{chain_inside}
-use Rattle.chained.proofs.Holding.{tuples-many}
-use Rattle.chained.proofs.Keeping.{in_order}
+use Rattle.std.proofs.Common.{rules, ◌∙◌}
+use Rattle.std.proofs.lemmas.Iterator.Consumers.{YieldsList-from_rest, YieldsList-from_filter, count_from_yields_List}
+use Rattle.tuples.specs.Matching.{matches}
+use Rattle.chained.specs.Links.{rows_of, told}
+use Rattle.chained.proofs.Holding.{count_numbered}
 use Rattle.chained.proofs.chains.Chains.count.Goals as goal
-
-pub count_matches-requires : goal.count_matches-requires
-count_matches-requires c =
-    let s = c.args.self.now in
-    chain_inside s.rows.now s.ends (in_order s) c.args.site (omega arith)
+use borrow.Author.Tests.{tests}
 
 pub returns : goal.returns
 returns c =
     let s = c.args.self.now in
-    c.count_matches.ensures ∙ tuples-many s.rows.now c.args.template.now (rows_of s.rows.now s.ends c.args.site)
+    count_from_yields_List _ _ c.count.ensures.ran (YieldsList-from_filter _ (λ x. matches c.args.template.now x.1) (YieldsList-from_rest {shows = told} _ (c.filter.ensures.source ∙ c.chain.ensures.rows)) c.filter.ensures.closure (λ x b q k. search (rules, tests))) ∙ count_numbered s.rows.now c.args.template.now (rows_of s.rows.now s.ends c.args.site.number)

@@ -4,4 +4,4 @@ use Rattle.chained.proofs.Spacing.{bag-length}
 use Rattle.chained.proofs.space.ChainedSpaceSpace.size.Goals as goal
 
 pub returns : goal.returns
-returns c = c.size.ensures ∙ bag-length (chain_in c.args.self.now.chains.now)
+returns c = c.size.ensures ∙ bag-length (chain_in c.args.self.now.chains)

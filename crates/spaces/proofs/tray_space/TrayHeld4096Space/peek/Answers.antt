@@ -1,16 +1,14 @@
-use Rattle.std.proofs.Common.{refl}
+use Rattle.std.proofs.Common.{◌≡◌, option_map, arith}
+use Rattle.std.proofs.lemmas.Grind.{common_steps}
 use Rattle.spaces.specs.TraySpaces.{tray_bounded}
-use Rattle.spaces.proofs.Bagging.{nothing_beyond, gains_copies}
-use Rattle.spaces.proofs.Holding.{found_at, none_at}
+use Rattle.spaces.proofs.Bagging.{nothing_beyond}
+use Rattle.spaces.proofs.Holding.{told_seen}
 use Rattle.spaces.proofs.tray_space.TrayHeld4096Space.peek.Goals as goal
 
-pub returns-in_default : goal.returns-in_default
-returns-in_default c = nothing_beyond c.args.site c.args.template.now _ _ (tray_bounded c.args.self.now) c.in_default.ensures
+pub returns-in_err-here : goal.returns-in_err-here
+returns-in_err-here c = rw c.from_residual.ensures (nothing_beyond c.args.site c.args.template.now _ _ (tray_bounded c.args.self.now) c.in_err-here.ensures)
 
-pub returns-in-Some-peek : goal.returns-in-Some-peek
-returns-in-Some-peek c =
-    let found = found_at c.in-Some.here c.args.template.now c.args.site c.in-Some-peek.row _ _ c.in-Some.ensures c.in-Some-peek.ensures refl in
-    (found.matched, gains_copies c.args.site c.in-Some-peek.row.tuple _ _ found.gained)
-
-pub returns-in-None : goal.returns-in-None
-returns-in-None c = none_at c.in-Some.here c.args.template.now c.args.site _ c.in-Some.ensures c.in-None.ensures
+pub returns : goal.returns
+returns c =
+    let told : c.map.result ≡ option_map (λ y. y.tuple) c.peek.result = grind (arith, common_steps, c.map.ensures) in
+    rw told (told_seen c.in_ok-here.here c.args.template.now c.args.site _ c.peek.result c.in_ok-here.ensures c.peek.ensures)

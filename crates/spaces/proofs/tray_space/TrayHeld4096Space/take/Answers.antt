@@ -1,26 +1,15 @@
-use Rattle.std.proofs.Common.{sym, refl, ◌∙◌}
-use Rattle.rows.proofs.Counting.{none_without}
+use Rattle.std.proofs.Common.{◌≡◌, option_map, refl, arith}
+use Rattle.std.proofs.lemmas.Grind.{common_steps}
 use Rattle.spaces.specs.TraySpaces.{tray_bounded}
 use Rattle.spaces.proofs.Bagging.{nothing_beyond}
-use Rattle.spaces.proofs.Holding.{holds, found_at, none_at, same_rows}
+use Rattle.spaces.proofs.Holding.{told_found}
 use Rattle.spaces.proofs.tray_space.TrayHeld4096Space.take.Goals as goal
 
-pub returns-in_default : goal.returns-in_default
-returns-in_default c = record {
-  after = (nothing_beyond c.args.site c.args.template.now _ _ (tray_bounded c.args.self.now) c.in_default.ensures, λ p. refl);
-  fixed = refl;
-}
+pub returns-in_err-from-clause-after : goal.returns-in_err-from-clause-after
+returns-in_err-from-clause-after c = rw c.from_residual.ensures (nothing_beyond c.args.site c.args.template.now _ _ (tray_bounded c.args.self.now) c.in_err-from.ensures, λ p. refl)
 
-pub returns-in-Some-take : goal.returns-in-Some-take
-returns-in-Some-take c =
-    let out = c.in-Some-take.ensures in
-    let found = found_at c.in-Some.from c.args.template.now c.args.site c.in-Some-take.row _ _ c.in-Some.ensures out.got out.after in
-    record { after = (found.matched, found.gained); fixed = out.fixed }
-
-pub returns-in-None : goal.returns-in-None
-returns-in-None c =
-    let out = c.in-None.ensures in
-    record {
-      after = (none_at c.in-Some.from c.args.template.now c.args.site _ c.in-Some.ensures out.got, same_rows _ _ (out.after ∙ none_without (holds c.in-Some.from c.args.template.now) _ (sym out.got)));
-      fixed = out.fixed;
-    }
+pub returns-clause-after : goal.returns-clause-after
+returns-clause-after c =
+    let told : c.map.result ≡ option_map (λ y. y.tuple) c.take.result = grind (arith, common_steps, c.map.ensures) in
+    let out = c.take.ensures in
+    rw told (told_found c.in_ok-from.from c.args.template.now c.args.site _ _ c.take.result c.in_ok-from.ensures out.got out.after)
