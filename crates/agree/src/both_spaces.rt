@@ -37,6 +37,7 @@ fn put<L: Space, R: Space>(left: &mut L, right: &mut R, site: usize, tuple: Tupl
 
 fn turn<L: Space, R: Space>(left: &mut L, right: &mut R, draw: &mut Draw) -> bool {
     let site = draw.below(34);
+    // By a drawn number: closures for the steps would share both spaces and what is drawn.
     match draw.below(4) {
         0 => {
             let template = draw.template();

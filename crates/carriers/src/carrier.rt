@@ -6,6 +6,7 @@ ghost use Rattle.carriers.specs.Carriers.{Limited, is_for};
 use crate::letter::Letter;
 use rows::tray::Full;
 
+// `fixed` relates a carrier before to the carrier after, which no invariant can say.
 /// A carrier: copies of letters in the mail, up to a limit.
 pub trait Carrier {
     ghost mail: { Self → List Mail };

@@ -7,14 +7,14 @@ use tuples::template::Template;
 use tuples::tuple::Tuple;
 
 /// A letter: the site that it goes to, and what it says.
-#[derive(Clone, Copy, PartialEq, Debug)]
+#[derive(Clone, Copy, Debug)]
 pub struct Letter {
     pub to: Site,
     pub body: Body,
 }
 
 /// What a letter says, with the row of the thread that it concerns; goods concern none.
-#[derive(Clone, Copy, PartialEq, Debug)]
+#[derive(Clone, Copy, Debug)]
 pub enum Body {
     /// A tuple for the site's space.
     Goods(Tuple),

@@ -14,7 +14,7 @@ pub trait Mailbag: Store<Kept = Letter> {
     ghost limited: { (s : Self) → Limited (Self.listed s) (Self.room s) };
 }
 
-/// Each store of letters is a carrier.
+/// Each store of letters that keeps a carrier's limit is a carrier.
 impl<S: Mailbag> Carrier for S {
     ghost mail = { λ c. S.listed c };
 

@@ -14,7 +14,11 @@ use Rattle.chained.specs.declared.row.ChainRow.{ChainRow}
 use Rattle.chained.specs.Links.{tuple_in, tuple_of, tuples_at, numbered, told}
 use Rattle.chained.specs.Steps.{matches_in, matches_at}
 use Rattle.chained.proofs.Trails.{times, once-self}
-use Rattle.chained.proofs.Searching.{found-find, many-filter, visited_from_position, found_step, found-map, visited-map}
+use Rattle.std.proofs.lemmas.List.Sums.{length-filter}
+use Rattle.std.proofs.lemmas.Iterator.Adapters.{position_from-zero}
+use Rattle.rows.proofs.Searching.{visited_by}
+use Rattle.rows.proofs.Counting.{many_counts}
+use Rattle.chained.proofs.Searching.{found_step, found-map, visited-map}
 
 -- the search for the first that passes finds an element of the list
 module _ (p : ℕ → Bool) where
@@ -74,7 +78,7 @@ module _ (rows : List ChainRow) where
     -- what the library's words for finding, counting and telling the place say of numbered rows
     pub find_numbered : (is : List ℕ) (o : Option (ℕ × Bor Tuple)) → option_map told o ≡ find (λ x. matches m x.1) (numbered rows is) → (option_map (λ x. x.0) o ≡ found (matches_at rows m) is) × (option_map (λ x. x.1.now) o ≡ found (matches m) (tuples_at rows is))
     find_numbered is o e =
-        let all : option_map told o ≡ found (λ x. matches m x.1) (numbered rows is) = e ∙ found-find (λ x. matches m x.1) (numbered rows is) in
+        let all : option_map told o ≡ found (λ x. matches m x.1) (numbered rows is) = e in
         (parts o ∙ ap (option_map (λ x. x.0)) all ∙ numbered-found is, tuple_part o ∙ ap (option_map (λ x. x.1)) all ∙ found-map (λ x. x.1) (matches m) (numbered rows is) ∙ ap (found (matches m)) (numbered-tuples is))
       where
         parts : (o : Option (ℕ × Bor Tuple)) → option_map (λ x. x.0) o ≡ option_map (λ x. x.0) (option_map told o)
@@ -86,10 +90,10 @@ module _ (rows : List ChainRow) where
         tuple_part (Some x) = refl
 
     pub count_numbered : (is : List ℕ) → length (filter (λ x. matches m x.1) (numbered rows is)) ≡ many (matches m) (tuples_at rows is)
-    count_numbered is = many-filter (λ x. matches m x.1) (numbered rows is) ∙ sym (many-map (λ x. x.1) (matches m) (numbered rows is)) ∙ ap (many (matches m)) (numbered-tuples is)
+    count_numbered is = length-filter (λ x. matches m x.1) (numbered rows is) ∙ sym (many_counts (λ x. matches m x.1) (numbered rows is)) ∙ sym (many-map (λ x. x.1) (matches m) (numbered rows is)) ∙ ap (many (matches m)) (numbered-tuples is)
 
     pub visits_numbered : (is : List ℕ) (o : Option ℕ) (r : ℕ) → o ≡ position (λ x. matches m x.1) (numbered rows is) → MatchOption o (r ≡ length (numbered rows is)) (λ i. r ≡ i + 1) → r ≡ visited (matches m) (tuples_at rows is)
-    visits_numbered is o r e h = visited_from_position (λ x. matches m x.1) (numbered rows is) o r e h ∙ visited-map (λ x. x.1) (matches m) (numbered rows is) ∙ ap (visited (matches m)) (numbered-tuples is)
+    visits_numbered is o r e h = visited_by (λ x. matches m x.1) o (numbered rows is) r (e ∙ position_from-zero (λ x. matches m x.1) (numbered rows is)) h ∙ visited-map (λ x. x.1) (matches m) (numbered rows is) ∙ ap (visited (matches m)) (numbered-tuples is)
 
     without_tests : (o : Option Tuple) (i : ℕ) (is : List ℕ) (b : Bool) → tuple_of rows i ≡ o → matches_in m o ≡ b → tuples_at rows (without (matches_at rows m) is) ≡ without (matches m) (tuples_at rows is) → tuples_at rows (cond b is (i ∷ without (matches_at rows m) is)) ≡ without (matches m) (option_to_list o ++ tuples_at rows is)
     without_tests None i is true e t more = absurd (let z : ◌≡◌ {A = ℕ} 0 1 = ap once t in omega arith)

@@ -12,7 +12,7 @@ fn link_all(rows: &mut [ChainRow], many: u16)
     ensures prevs { (i : ℕ) → i < many → prev_of rows.new i ≡ i - 1 }
     ensures kept { Kept rows.old rows.new }
 {
-    // By number: of rows that a `zip` lends, a proof knows none that was written.
+    // By number: a proof learns nothing of rows that are written through a `zip`.
     for i in 0..many {
         let row = &mut rows[i as usize];
         row.next = i + 1;

@@ -7,6 +7,8 @@ ghost use Rattle.chained.specs.Steps.{SoundChain, Sound, LinksKept, Moved};
 use crate::ends::{CHAINS, Ends};
 use crate::row::ChainRow;
 
+// Rows and ends apart: the struct of the two is `Chains`, whose fact does not hold between these steps.
+
 /// Takes a row out of its chain; answers the chain's ends without it.
 fn detach(rows: &mut [ChainRow], ends: Ends, at: u16) -> Ends
     requires chain { SoundChain rows.old ends }

@@ -5,6 +5,7 @@ ghost use Rattle.tuples.specs.Tuples.{fields_of};
 use tuples::field::Field;
 use tuples::tuple::Tuple;
 
+// Links are numbers of rows, and no boxes: the rows are the caller's memory, with no heap.
 /// A row of the caller's memory: a tuple, and the rows behind and before it in its chain.
 #[derive(Clone, Copy)]
 pub struct ChainRow {

@@ -41,7 +41,7 @@ impl<'a> ChainedSpace<'a> {
     pub fn visits(&self, site: usize, template: &Template) -> usize
         ensures { result ≡ visited (matches template.now) (chain_of self.now site) }
     {
-        // No `map_or`: of a closure that calls the chains the check infers no result.
+        // No `map_or`: the check infers no result for a closure that calls the chains.
         let Some(site) = Site::new(site) else {
             return 0;
         };
@@ -49,6 +49,7 @@ impl<'a> ChainedSpace<'a> {
     }
 }
 
+// What is kept of the memory stands fact by fact, under the names that callers rely on.
 /// Of the tuples at a site that a template matches, the one that was put first is taken and peeked at.
 impl<'a> Space for ChainedSpace<'a> {
     ghost held = { λ s. held_in s };
@@ -115,7 +116,7 @@ impl<'a> Space for ChainedSpace<'a> {
         ensures hits { result ≡ many (hits site template.now) (held_in self.now) }
         ensures chain { result ≡ many (matches template.now) (chain_of self.now site) }
     {
-        // No `map_or`: of a closure that calls the chains the check infers no result.
+        // No `map_or`: the check infers no result for a closure that calls the chains.
         let Some(site) = Site::new(site) else {
             return 0;
         };

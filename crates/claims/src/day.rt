@@ -65,6 +65,7 @@ fn offer<S: Space>(
     site: usize,
     claim: Tuple,
 ) -> anyhow::Result<()> {
+    // In words of its own, which name the site.
     match space.put(site, claim) {
         Ok(()) => println!(rt; "{claim} is offered at site {site}")?,
         Err(PutRefusal::Full) => println!(rt; "{claim} is refused: the space is full")?,

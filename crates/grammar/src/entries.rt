@@ -43,8 +43,8 @@ impl<'t> Unread<'t> {
         }
     }
 
-    // One step for each sort of entries: the machine's definitions speak of the sort too, so that a
-    // method passed in its place would have to travel beside it.
+    // One step for each sort of entries. The machine's definitions speak of the sort, so that a
+    // closure for the step would be passed beside the sort, and not in its place.
     fn entry(self, entries: Entries) -> Reading<'t>
         ensures { Reads (entry entries ∷ []) self.entry result }
     {

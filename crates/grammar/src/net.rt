@@ -11,7 +11,7 @@ use syntax::{Entries, Lines, Terminal};
 // The longest text that is read.
 const LONGEST: usize = 16_384;
 
-// The reserved word that such lines begin with; no `From`, since the lines are more than their word.
+// The reserved word that such lines begin with. No `From`: lines are no words, they begin with one.
 fn first_word(which: Lines) -> Keyword
     ensures { result ≡ line_key which }
 {
@@ -33,6 +33,8 @@ impl<'t> Unread<'t> {
             .expect(Terminal::Sign(b';'))
     }
 
+    // As in `lines` and `process`: one function for the three loops would take a step whose contract
+    // speaks of a symbol's reading, which is longer than the loop.
     fn aliases(self) -> Reading<'t>
         ensures { Reads (many aliases ∷ []) self.entry result }
     {
@@ -82,8 +84,8 @@ impl<'t> Unread<'t> {
             .expect(Terminal::Sign(b';'))
     }
 
-    // What follows the first word of a line. The machine's definitions speak of the sort of lines
-    // too, so that a method passed in its place would have to travel beside it.
+    // What follows the first word of a line. The machine's definitions speak of the sort of lines, so
+    // that a closure for the step would be passed beside the sort, and not in its place.
     fn line(self, which: Lines) -> Reading<'t>
         ensures { ReadsIn 0 (line_body which) self.entry result }
     {

@@ -7,7 +7,7 @@ use crate::unread::{Reading, Unread};
 use lex::{Keyword, Kind, Refusal, Token, next_token};
 use syntax::{Entries, Terminal};
 
-// Whether a field may be this token, as two sorts of entries ask.
+// Whether a field may be this token; two sorts of entries ask it, and the test would stand twice.
 fn is_field(kind: Kind) -> bool
     ensures { result ≡ is_field kind }
 {

@@ -39,6 +39,7 @@ pub(crate) fn leading<'t, F: Fn(u8) -> bool>(bytes: &'t [u8], test: F) -> &'t [u
     &bytes[..n]
 }
 
+// No `TryFrom`: letters that spell no reserved word are no fault, but a name.
 /// The reserved word that the letters spell, if any.
 pub(crate) fn reserved(w: &[u8]) -> Option<Keyword>
     ensures { result ≡ reserved w.now }
@@ -64,10 +65,8 @@ pub(crate) fn reserved(w: &[u8]) -> Option<Keyword>
 pub(crate) fn run_kind(w: &[u8]) -> Option<Kind>
     ensures { result ≡ run_kind w.now }
 {
-    match reserved(w) {
-        Some(k) => Some(Kind::Reserved(k)),
-        None => (w.len() <= 16).then_some(Kind::Name),
-    }
+    let name = (w.len() <= 16).then_some(Kind::Name);
+    reserved(w).map(Kind::Reserved).or(name)
 }
 
 /// Whether a run of letters and digits is a name.

@@ -40,6 +40,7 @@ pub fn next_token<'t>(text: &'t [u8], at: usize) -> Result<Token<'t>, (Refusal, 
         .ok_or((Refusal::NotAllowed, start))
 }
 
+// Where a form of token may be missing, `if` and no `then`: a closure that makes a token gets no proof.
 impl<'t> Rest<'t> {
     // The token that it begins with.
     #[tactic(auto, unfolding(crate::specs::Tokens::tok_at))]

@@ -38,6 +38,7 @@ pub enum Kind {
     Sign(u8),
 }
 
+// The text stands beside the kind, and not in it, so that kinds are compared without it.
 /// A token with its place: `text` is the part of the caller's text that is the name, the variable's
 /// name, the word between its quotes or the reserved word, and empty for other tokens.
 #[derive(Clone, Copy, Debug)]

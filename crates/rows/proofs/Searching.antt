@@ -1,12 +1,12 @@
 -- What the searches through a list find, by the place that std's `position` counts. Assumes nothing.
-use Rattle.std.proofs.Common.{◌≡◌, ℕ, suc, ◌+◌, ◌<◌, ◌≤◌, min, Bool, true, false, not, cond, ltb, List, [], ◌∷◌, ◌++◌, length, get_or, Some, None, Option, MatchOption, sym, refl, ap, ◌∙◌, arith}
+use Rattle.std.proofs.Common.{◌≡◌, ℕ, suc, ◌+◌, ◌<◌, ◌≤◌, min, Bool, true, false, not, cond, ltb, List, [], ◌∷◌, length, get_or, Some, None, Option, MatchOption, sym, refl, ap, ◌∙◌, arith}
 use Rattle.std.specs.List.{remove, position_or_len}
 use Rattle.std.proofs.lemmas.Bool.{ltb-true}
-use Rattle.std.proofs.lemmas.List.{take_all, drop_all, append-nil}
 use Rattle.std.proofs.lemmas.List.Folds.{find_at}
 use Rattle.std.proofs.lemmas.Option.{cond_some, slice_get-get_or, slice_get_past}
 use Rattle.std.proofs.lemmas.Iterator.Adapters.{position_from-zero}
 use Rattle.rows.specs.Searches.{place_from, found, without, visited}
+use Rattle.rows.proofs.Counting.{none_without}
 
 module _ {X : Type 0} (p : X → Bool) where
   visited-step : (b : Bool) (k m v : ℕ) → v ≡ min (k + 1) m → 1 + cond b 0 v ≡ min (cond (not b) (1 + k) 0 + 1) (suc m)
@@ -49,10 +49,8 @@ module _ {X : Type 0} (p : X → Bool) where
   pub missed : (xs : List X) → place_from 0 p xs ≡ None → Missed xs
   missed xs e =
       let past : length xs ≤ position_or_len p xs = let none = position_from-zero p xs ∙ e in grind arith in
-      record {
-        none = find_at p xs ∙ slice_get_past xs (position_or_len p xs) past;
-        kept = without-remove xs ∙ (λ j. take_all (position_or_len p xs) xs past j ++ drop_all (suc (position_or_len p xs)) xs (omega arith) j) ∙ append-nil xs;
-      }
+      let none = find_at p xs ∙ slice_get_past xs (position_or_len p xs) past in
+      record { none = none; kept = none_without p xs none }
 
   -- how many are looked at, by the answer of the search
   pub visited_by : (o : Option ℕ) (xs : List X) (n : ℕ) → o ≡ place_from 0 p xs → MatchOption o (n ≡ length xs) (λ i. n ≡ i + 1) → n ≡ visited p xs

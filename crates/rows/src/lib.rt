@@ -1,4 +1,4 @@
-//! Rows of the caller's memory: the question that finds one, the search for it, and the tray that keeps them.
+//! Rows of the caller's memory: the question that finds one, the search for it, what keeps rows in use, and the tray.
 #![tactic(auto)]
 
 pub mod laws;

@@ -4,6 +4,7 @@ ghost use Rattle.rows.specs.Searches.{found, without};
 use crate::row::Row;
 use crate::tray::Full;
 
+// `fixed` relates a store before to the store after, which no invariant can say.
 /// Rows in use in the caller's memory, oldest first.
 pub trait Store {
     /// The kind of row that is kept.

@@ -3,6 +3,7 @@ ghost use Rattle.std.specs.Prelude.{◌≤◌, Some, codes, length, min};
 use std::error::Error;
 use std::fmt;
 
+// A slice with a count beside it, and no `Vec`: the rows are the caller's memory, with no heap.
 /// Rows in use at the front of the caller's memory, of which a tray uses at most `MOST`.
 #[derive(Debug, Drop)]
 pub struct Tray<'a, R, const MOST: usize> {

@@ -8,6 +8,7 @@ use Rattle.rows.specs.Bags.{once, many, Same, Gains}
 use Rattle.rows.specs.Searches.{found, without}
 use Rattle.rows.proofs.Counting.{many-map, gains_last, found-passes, found_gains, none_many, none_without}
 use Rattle.spaces.specs.declared.held.Held.{Held}
+use Rattle.spaces.specs.declared.held.Wanted.{Wanted}
 use Rattle.spaces.specs.Spaces.{at, hits, copies}
 use Rattle.spaces.specs.TraySpaces.{located}
 use Rattle.spaces.proofs.Bagging.{located-told, gains_copies}
@@ -47,11 +48,25 @@ pub same_rows : (xs ys : List Held) → ys ≡ xs → Same (map located xs) (map
 same_rows xs ys e p = ap (λ zs. many p (map located zs)) e
 
 -- what is found among the rows, as the tuple that it holds, and what the rows hold then
-pub told_found : (s : Site) (m : Template) (n : ℕ) (xs ys : List Held) (x : Option Held) → s.number ≡ n → x ≡ found (holds s m) xs → ys ≡ without (holds s m) xs → MatchOption (option_map (λ y. y.tuple) x) ((many (hits n m) (map located xs) ≡ 0) × Same (map located xs) (map located ys)) (λ t. (matches m t ≡ true) × Gains (at n t) (map located ys) (map located xs))
-told_found s m n xs ys None e f w = (none_at s m n xs e f, same_rows xs ys (w ∙ none_without (holds s m) xs (sym f)))
-told_found s m n xs ys (Some x) e f w = let t = found_at s m n x xs ys e f w in (t.matched, t.gained)
+found_there : (s : Site) (m : Template) (n : ℕ) (xs ys : List Held) (x : Option Held) → s.number ≡ n → x ≡ found (holds s m) xs → ys ≡ without (holds s m) xs → MatchOption (option_map (λ y. y.tuple) x) ((many (hits n m) (map located xs) ≡ 0) × Same (map located xs) (map located ys)) (λ t. (matches m t ≡ true) × Gains (at n t) (map located ys) (map located xs))
+found_there s m n xs ys None e f w = (none_at s m n xs e f, same_rows xs ys (w ∙ none_without (holds s m) xs (sym f)))
+found_there s m n xs ys (Some x) e f w = let t = found_at s m n x xs ys e f w in (t.matched, t.gained)
 
 -- what is found among the rows, as a tuple of which there are copies
-pub told_seen : (s : Site) (m : Template) (n : ℕ) (xs : List Held) (x : Option Held) → s.number ≡ n → x ≡ found (holds s m) xs → MatchOption (option_map (λ y. y.tuple) x) (many (hits n m) (map located xs) ≡ 0) (λ t. (matches m t ≡ true) × (0 < copies (map located xs) n t))
-told_seen s m n xs None e f = none_at s m n xs e f
-told_seen s m n xs (Some x) e f = let t = found_at s m n x xs _ e f refl in (t.matched, gains_copies n x.tuple _ _ t.gained)
+seen_there : (s : Site) (m : Template) (n : ℕ) (xs : List Held) (x : Option Held) → s.number ≡ n → x ≡ found (holds s m) xs → MatchOption (option_map (λ y. y.tuple) x) (many (hits n m) (map located xs) ≡ 0) (λ t. (matches m t ≡ true) × (0 < copies (map located xs) n t))
+seen_there s m n xs None e f = none_at s m n xs e f
+seen_there s m n xs (Some x) e f = let t = found_at s m n x xs _ e f refl in (t.matched, gains_copies n x.tuple _ _ t.gained)
+
+-- a question asks for what the template matches at site n
+abbrev pub Asks : Wanted → ℕ → Template → Type 0
+Asks q n m = (q.site.number ≡ n) × (q.template ≡ m)
+
+module _ (q : Wanted) (n : ℕ) (m : Template) (asks : Asks q n m) where
+  pub told_found : (xs ys : List Held) (x : Option Held) → x ≡ found (holds q.site q.template) xs → ys ≡ without (holds q.site q.template) xs → MatchOption (option_map (λ y. y.tuple) x) ((many (hits n m) (map located xs) ≡ 0) × Same (map located xs) (map located ys)) (λ t. (matches m t ≡ true) × Gains (at n t) (map located ys) (map located xs))
+  told_found xs ys x f w = rw (sym asks.1) (found_there q.site q.template n xs ys x asks.0 f w)
+
+  pub told_seen : (xs : List Held) (x : Option Held) → x ≡ found (holds q.site q.template) xs → MatchOption (option_map (λ y. y.tuple) x) (many (hits n m) (map located xs) ≡ 0) (λ t. (matches m t ≡ true) × (0 < copies (map located xs) n t))
+  told_seen xs x f = rw (sym asks.1) (seen_there q.site q.template n xs x asks.0 f)
+
+  pub told_count : (xs : List Held) → many (holds q.site q.template) xs ≡ many (hits n m) (map located xs)
+  told_count xs = count_at q.site q.template n xs asks.0 ∙ ap (λ k. many (hits n k) (map located xs)) asks.1

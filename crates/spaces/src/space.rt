@@ -6,6 +6,8 @@ ghost use Rattle.spaces.specs.Answers.{put_answer};
 ghost use Rattle.spaces.specs.declared.space.PutRefusal.TheVariants as refusal;
 
 use rows::tray::Full;
+use std::error::Error;
+use std::fmt;
 use tuples::template::Template;
 use tuples::tuple::Tuple;
 
@@ -16,6 +18,17 @@ pub enum PutRefusal {
     Full,
 }
 
+impl fmt::Display for PutRefusal {
+    fn fmt<W: fmt::Write>(&self, f: &mut fmt::Formatter<W>) -> fmt::Result {
+        match self {
+            Self::NoSuchSite => write!(f, "there is no such site"),
+            Self::Full => write!(f, "the space is full"),
+        }
+    }
+}
+
+impl Error for PutRefusal {}
+
 impl From<Full> for PutRefusal {
     ghost from_gives = { λ _ e. e ≡ refusal.Full };
 
@@ -24,6 +37,9 @@ impl From<Full> for PutRefusal {
     }
 }
 
+// A site is an ordinary number in a call, and no `Site`, so that any number can be asked for; it stands beside
+// the template, and not with it in a `Wanted`, whose site is one of the 32.
+// `fixed` relates a space before to the space after, which no invariant can say.
 /// A tuple space: copies of tuples at sites, up to a limit.
 pub trait Space {
     ghost held: { Self → List Located };

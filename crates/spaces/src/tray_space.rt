@@ -1,4 +1,4 @@
-ghost use Rattle.std.specs.Prelude.{map};
+ghost use Rattle.std.specs.Prelude.{map, ◌≡◌, ◌≤◌, MatchOption};
 ghost use Rattle.rows.specs.Trays.{room as rowsFor, listed};
 ghost use Rattle.spaces.specs.TraySpaces.{located, tray_bounded};
 
@@ -13,6 +13,7 @@ use tuples::tuple::Tuple;
 /// A tray of tuples, over at most 4,096 rows of the caller's memory.
 pub type HeldTray<'a> = Tray<'a, Held, 4096>;
 
+// `limit`, `clear` and `size` pass on to the store, as a carrier's do: a space and a carrier are two traits.
 impl<'a> Space for Tray<'a, Held, 4096> {
     ghost held = { λ s. map located (listed s) };
 
@@ -39,31 +40,28 @@ impl<'a> Space for Tray<'a, Held, 4096> {
     }
 
     fn take(&mut self, site: usize, template: &Template) -> Option<Tuple> {
-        let from = Site::new(site)?;
-        let question = Wanted {
-            site: from,
-            template: *template,
-        };
-        Store::take(self, &question).map(|row| row.tuple)
+        Store::take(self, &wanted(site, template)?).map(|row| row.tuple)
     }
 
     fn peek(&self, site: usize, template: &Template) -> Option<Tuple> {
-        let here = Site::new(site)?;
-        let question = Wanted {
-            site: here,
-            template: *template,
-        };
-        Tray::peek(self, &question).map(|row| row.tuple)
+        Tray::peek(self, &wanted(site, template)?).map(|row| row.tuple)
     }
 
     fn count(&self, site: usize, template: &Template) -> usize {
-        let Some(here) = Site::new(site) else {
+        // No `map_or`: the check infers no result for a closure that calls the tray.
+        let Some(question) = wanted(site, template) else {
             return 0;
-        };
-        let question = Wanted {
-            site: here,
-            template: *template,
         };
         Tray::count(self, &question)
     }
+}
+
+/// The question for a tuple that the template matches at the site, or nothing where there is no such site.
+fn wanted(site: usize, template: &Template) -> Option<Wanted>
+    ensures { MatchOption result (32 ≤ site) (λ q. (q.site.number ≡ site) × (q.template ≡ template.now)) }
+{
+    Some(Wanted {
+        site: Site::new(site)?,
+        template: *template,
+    })
 }

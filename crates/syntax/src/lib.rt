@@ -6,6 +6,8 @@ mod stands;
 
 pub use stands::{decided_stands, exact_stands, refused_stands, unique_stands};
 
+// Enums, also where code chooses a step by them: the machine's definitions speak of these sorts.
+
 /// A terminal of the grammar: the token that has to stand at a place.
 #[derive(Clone, Copy, Debug)]
 pub enum Terminal {

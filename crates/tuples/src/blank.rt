@@ -5,6 +5,7 @@ ghost use Rattle.tuples.specs.declared.place.Place.TheVariants.{Actual};
 use crate::field::Field;
 use crate::place::Place;
 
+// Not `Default`, whose ghost member is a relation: the facts of `Few` speak of the one value.
 /// An item of which there is a blank one, for places that are not used.
 pub trait Blank: Copy {
     ghost blank: { Self };

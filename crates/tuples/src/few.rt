@@ -3,6 +3,8 @@ ghost use Rattle.std.specs.Prelude.{◌≡◌, ℕ, ◌<◌, ◌≤◌, length, 
 use crate::blank::Blank;
 use std::alloc::AllocError;
 
+// An array with a length beside it: rows of the caller's memory hold it and are copied, with no heap, and
+// neither a `Vec` nor an `ArrayVec` is `Copy`.
 /// One to four items, in fixed memory; the places that they do not use are blank.
 #[derive(PartialEq, Eq, Debug)]
 pub struct Few<T: Blank> {
@@ -14,7 +16,7 @@ pub struct Few<T: Blank> {
     ghost rest: { (k : ℕ) → len ≤ k → k < 4 → slice_index_or items k T.blank ≡ T.blank },
 }
 
-// `Clone` cannot be derived for a generic struct with facts about its fields.
+// By hand: for a struct that is generic in a type and has facts about its fields, `Clone` is not derived.
 impl<T: Blank> Clone for Few<T> {
     ghost is_clone = { λ f g. g ≡ f };
 

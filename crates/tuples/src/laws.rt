@@ -17,7 +17,7 @@ pub fn matching_decided()
     ensures { MatchingDecided }
 {}
 
-/// Two values are equal by `==` exactly if they are one: fields of one type and value, places that accept alike, tuples of the same fields in order and templates of the same places.
+/// Fields, places, tuples and templates are equal by `==` exactly if they are the same value; each `==` is a test that is named.
 pub fn equality_decided()
     ensures fields { TestsEquality ⟦<Field as PartialEq>⟧.eq same_field }
     ensures places { TestsEquality ⟦<Place as PartialEq>⟧.eq same_place }

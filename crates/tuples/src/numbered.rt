@@ -8,12 +8,13 @@ pub struct Numbered<const MOST: usize> {
 }
 
 impl<const MOST: usize> Numbered<MOST> {
-    // An `Option` and no `TryFrom`: the one way to be refused is to be out of range.
+    // No `TryFrom`: a number is refused only out of range, and an error would say no more.
     /// The thing of a number, or nothing where the number is out of range.
     pub fn new(number: usize) -> Option<Numbered<MOST>>
         ensures { MatchOption result (min MOST 256 ≤ number) (λ s. s.number ≡ number) }
     {
         let number = u8::try_from(number).ok()?;
+        // No `then`: its closure does not know the test that lets it make a `Numbered`.
         if usize::from(number) < MOST {
             Some(Numbered { number })
         } else {
@@ -21,6 +22,7 @@ impl<const MOST: usize> Numbered<MOST> {
         }
     }
 
+    // No `From`: the name says which number a `usize` would be.
     /// The number that tells the thing.
     pub fn number(self) -> usize
         ensures { result ≡ self.entry.number }

@@ -18,6 +18,7 @@ impl Few<Place> {
         if places.len() != fields.len() {
             return false;
         }
+        // By index, where a `zip` would do: the project asks for this form.
         for (i, place) in places.iter().enumerate() {
             if !place.accepts(fields[i]) {
                 return false;

@@ -18,6 +18,7 @@ use tuples::site::Site;
 use tuples::template::Template;
 use tuples::tuple::Tuple;
 
+// A site and a template apart, as the calls of a space give them: `Wanted` would hold a copy of the template.
 impl<'a> Chains<'a> {
     /// Links the rows of the caller's memory, whatever they hold, into the chain of free rows.
     pub(crate) fn over(rows: &'a mut [ChainRow]) -> Chains<'a>
@@ -102,6 +103,7 @@ impl<'a> Chains<'a> {
         self.find(site, template).map(|(_, tuple)| *tuple)
     }
 
+    // As the search in `rows` counts and looks, but along a chain and not a slice.
     /// How many tuples of the site's chain the template matches.
     pub(crate) fn count(&self, site: Site, template: &Template) -> usize
         ensures { result ≡ many (matches template.now) (chain_in self.now site.number) }

@@ -28,6 +28,7 @@ impl<'a, R: Row, const MOST: usize> Ring<'a, R, MOST> {
         ensures { result ≡ place_from 0 (λ x. R.hit x question.now) (listed self.now) }
     {
         let (older, newer) = self.in_use();
+        // No `or_else`: the check infers too little of its closure.
         if let Some(i) = search::first(older, question) {
             return Some(i);
         }
@@ -59,6 +60,7 @@ impl<'a, R: Row, const MOST: usize> Ring<'a, R, MOST> {
         ensures lent { self.new.rows.ghost_name ≡ self.old.rows.ghost_name }
     {
         let row = self.rows[self.place(at)];
+        // By number: the rows to move lie on both sides of the memory's end.
         for i in (0..at).rev() {
             let to = self.place(i + 1);
             self.rows[to] = self.rows[self.place(i)];
@@ -85,6 +87,8 @@ impl<'a, R: Row, const MOST: usize> Ring<'a, R, MOST> {
     }
 }
 
+// `limit` and `len` read as the tray's: each is one line over fields, and a trait has none. `fixed` and `lent`
+// relate the ring before to the ring after, which no invariant can say.
 /// A row that is taken out leaves its place to those that are older, which move up by one.
 impl<'a, R: Row, const MOST: usize> Store for Ring<'a, R, MOST> {
     type Kept = R;

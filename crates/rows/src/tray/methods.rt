@@ -47,6 +47,8 @@ impl<'a, R: Row, const MOST: usize> Tray<'a, R, MOST> {
     }
 }
 
+// `limit` and `len` read as the ring's: each is one line over fields, and a trait has none. `fixed` and `lent`
+// relate the tray before to the tray after, which no invariant can say.
 /// A row that is added comes behind those in use, and those behind a row that is taken out close up.
 impl<'a, R: Row, const MOST: usize> Store for Tray<'a, R, MOST> {
     type Kept = R;

@@ -6,6 +6,7 @@ use crate::few::Few;
 use std::fmt;
 
 impl<T: Blank> Few<T> {
+    // An `Option` and no `TryFrom`: only the number of the items is refused, and an error would say no more.
     /// These items, or nothing where there are none or more than four.
     pub fn new(items: &[T]) -> Option<Few<T>>
         ensures { MatchOption result ((length items.now ≡ 0) ⊎ (4 < length items.now)) (λ f. items_of f ≡ items.now) }
