@@ -1,6 +1,6 @@
 // Why a text is no text of the grammar.
-ghost use Rattle.std.specs.Prelude.{◌≡◌};
-ghost use Rattle.lex.specs.Refusals.{number_of};
+ghost use Rattle.std.specs.Prelude.{◌≡◌, Some};
+ghost use Rattle.lex.specs.Refusals.{number_of, words};
 
 use std::error::Error;
 use std::fmt;
@@ -25,13 +25,15 @@ impl Refusal {
 }
 
 impl fmt::Display for Refusal {
+    ghost output = { λ r. Some (words r) };
+
     fn fmt<W: fmt::Write>(&self, f: &mut fmt::Formatter<W>) -> fmt::Result {
-        f.write_str(match self {
-            Refusal::TooLong => "the text is too long",
-            Refusal::NotAllowed => "the grammar does not allow this token",
-            Refusal::TooDeep => "too many brackets are open",
-            Refusal::TooLarge => "the number has more than 32 bits",
-        })
+        match self {
+            Refusal::TooLong => write!(f, "the text is too long"),
+            Refusal::NotAllowed => write!(f, "the grammar does not allow this token"),
+            Refusal::TooDeep => write!(f, "too many brackets are open"),
+            Refusal::TooLarge => write!(f, "the number has more than 32 bits"),
+        }
     }
 }
 

@@ -1,8 +1,8 @@
-ghost use Rattle.std.specs.Prelude.{◌≡◌, ℕ, ◌<◌, true, List, [], length, MatchOption, MatchResult};
+ghost use Rattle.std.specs.Prelude.{◌≡◌, ℕ, ◌<◌, true, Some, List, [], length, MatchOption, MatchResult};
 ghost use Rattle.tuples.specs.Matching.{matches};
 ghost use Rattle.rows.specs.Bags.{many, Same, Gains};
 ghost use Rattle.spaces.specs.Spaces.{Located, Bounded, at, hits, copies};
-ghost use Rattle.spaces.specs.Answers.{put_answer};
+ghost use Rattle.spaces.specs.Answers.{put_answer, words};
 ghost use Rattle.spaces.specs.declared.space.PutRefusal.TheVariants as refusal;
 
 use rows::tray::Full;
@@ -19,6 +19,8 @@ pub enum PutRefusal {
 }
 
 impl fmt::Display for PutRefusal {
+    ghost output = { λ r. Some (words r) };
+
     fn fmt<W: fmt::Write>(&self, f: &mut fmt::Formatter<W>) -> fmt::Result {
         match self {
             Self::NoSuchSite => write!(f, "there is no such site"),
