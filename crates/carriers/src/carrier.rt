@@ -13,6 +13,8 @@ pub trait Carrier {
 
     ghost capacity: { Self → ℕ };
 
+    ghost limited: { (c : Self) → Limited (mail c) (capacity c) };
+
     /// How many letters the carrier can hold at most.
     fn limit(&self) -> usize
         ensures { result ≡ capacity self.now };
@@ -36,6 +38,4 @@ pub trait Carrier {
     fn fetch(&mut self, site: usize) -> Option<Letter>
         ensures after { MatchOption result ((many (is_for site) (mail self.old) ≡ 0) × Same (mail self.old) (mail self.new)) (λ l. (is_for site l ≡ true) × Gains l (mail self.new) (mail self.old)) }
         ensures fixed { capacity self.new ≡ capacity self.old };
-
-    ghost limited: { (c : Self) → Limited (mail c) (capacity c) };
 }

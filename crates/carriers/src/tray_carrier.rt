@@ -1,3 +1,5 @@
+ghost use Rattle.std.specs.Prelude.{refl};
+ghost use Rattle.rows.specs.Trays.{room, listed};
 ghost use Rattle.carriers.specs.Limits.{tray_limited};
 
 use crate::letter::Letter;
@@ -8,5 +10,13 @@ use rows::tray::Tray;
 pub type LetterTray<'a> = Tray<'a, Letter, 256>;
 
 impl<'a> Mailbag for Tray<'a, Letter, 256> {
+    ghost letters = { λ t. listed t };
+
+    ghost places = { λ t. room t };
+
     ghost limited = { λ t. tray_limited t };
+
+    ghost all = { λ _. refl };
+
+    ghost whole = { λ _. refl };
 }

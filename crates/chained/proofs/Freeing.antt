@@ -9,8 +9,8 @@ use Rattle.rows.specs.Bags.{once, many}
 use Rattle.chained.specs.declared.row.ChainRow.{ChainRow}
 use Rattle.chained.specs.declared.ends.Ends.{Ends}
 use Rattle.chained.specs.Links.{next_of, prev_of, trail, forward, ends_of, rows_of, room_for, total, BothWays}
-use Rattle.chained.specs.Steps.{Fresh}
-use Rattle.chained.proofs.Trails.{times, once-self, once_other, trail_kept}
+use Rattle.chained.specs.Steps.{led, Fresh}
+use Rattle.chained.proofs.Trails.{times, once-self, once_other, led-here, led_off, trail_kept}
 use Rattle.chained.proofs.Writing.{nth_set_same, nth_set_other}
 use Rattle.chained.proofs.Chaining.{times_reverse}
 use Rattle.chained.proofs.Totals.{total-one, total_none, many-upto}
@@ -107,3 +107,16 @@ fresh rows e many first last nexts prevs =
 -- one row more is linked
 pub linked_more : (seen : Option ChainRow → ℕ) (f : ℕ → ℕ) (rows : List ChainRow) (i : ℕ) (v : ChainRow) → i < length rows → ((k : ℕ) → k < i → seen (slice_get rows k) ≡ f k) → seen (Some v) ≡ f i → (k : ℕ) → k < i + 1 → seen (slice_get (set rows i v) k) ≡ f k
 linked_more seen f rows i v within before is = below_more _ i (λ k h. ap seen (nth_set_other rows i k v (λ z. omega arith)) ∙ before k h) (ap seen (nth_set_same rows i _ v (slice_get-get_or rows i v within)) ∙ is)
+
+-- the same, where one link is written and then the other
+pub nexts_more : (old mid new : List ChainRow) (i j : ℕ) → ((k : ℕ) → k < i → next_of old k ≡ k + 1) → j ≡ i + 1 → ((k : ℕ) → next_of mid k ≡ led (next_of old) i j k) → ((k : ℕ) → next_of new k ≡ next_of mid k) → (k : ℕ) → k < i + 1 → next_of new k ≡ k + 1
+nexts_more old mid new i j before e is same k h = elim (cases_eq k i) [
+  | inl z ↦ let w : i + 1 ≡ k + 1 = omega arith in same k ∙ is k ∙ led-here (next_of old) i j k z ∙ e ∙ w
+  | inr d ↦ same k ∙ is k ∙ led_off (next_of old) i j k d ∙ before k (omega arith)
+]
+
+pub prevs_more : (old mid new : List ChainRow) (i j : ℕ) → ((k : ℕ) → k < i → prev_of old k ≡ k - 1) → j ≡ i - 1 → ((k : ℕ) → prev_of mid k ≡ prev_of old k) → ((k : ℕ) → prev_of new k ≡ led (prev_of mid) i j k) → (k : ℕ) → k < i + 1 → prev_of new k ≡ k - 1
+prevs_more old mid new i j before e same is k h = elim (cases_eq k i) [
+  | inl z ↦ let w : i - 1 ≡ k - 1 = omega arith in is k ∙ led-here (prev_of mid) i j k z ∙ e ∙ w
+  | inr d ↦ is k ∙ led_off (prev_of mid) i j k d ∙ same k ∙ before k (omega arith)
+]

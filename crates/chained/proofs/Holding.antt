@@ -1,6 +1,6 @@
 -- The tuples of a list of rows, and what a search finds among them. Assumes nothing.
 use Rattle.std.proofs.Common.{◌≡◌, ℕ, ◌+◌, ◌<◌, Bool, true, false, cond, eqb, List, [], ◌∷◌, ◌++◌, map, length, Some, None, Option, sym, refl, ap, ◌∙◌, inl, inr, append_assoc, arith, length-append, Bor, MatchOption}
-use Rattle.std.specs.List.{cons_option, find, filter, position}
+use Rattle.std.specs.List.{cons_option, find, filter, position, slice_get}
 use Rattle.std.specs.Option.{option_to_list, option_map}
 use Rattle.std.proofs.lemmas.List.{length-map}
 use Rattle.std.proofs.lemmas.Option.{slice_get_cases}
@@ -66,6 +66,21 @@ module _ (rows : List ChainRow) where
   numbered-length is h = sym (length-map (numbered rows is) (λ x. x.1)) ∙ ap length (numbered-tuples is) ∙ tuples-length is h
 
   module _ (m : Template) where
+    -- the tuple of the row that was found
+    abbrev pub tuple_found : Option ℕ → Option Tuple
+    tuple_found None = None
+    tuple_found (Some i) = tuple_of rows i
+
+    found_tests : (o : Option Tuple) (i : ℕ) (is : List ℕ) (b : Bool) → tuple_of rows i ≡ o → matches_in m o ≡ b → found (matches m) (tuples_at rows is) ≡ tuple_found (found (matches_at rows m) is) → found (matches m) (option_to_list o ++ tuples_at rows is) ≡ tuple_found (cond b (Some i) (found (matches_at rows m) is))
+    found_tests None i is true e t more = absurd (let z : ◌≡◌ {A = ℕ} 0 1 = ap once t in omega arith)
+    found_tests None i is false e t more = more
+    found_tests (Some x) i is true e t more = cond-true (matches m x) (Some x) _ t ∙ sym e
+    found_tests (Some x) i is false e t more = cond-false (matches m x) (Some x) _ t ∙ more
+
+    pub tuples-found : (is : List ℕ) → found (matches m) (tuples_at rows is) ≡ tuple_found (found (matches_at rows m) is)
+    tuples-found [] = refl
+    tuples-found (i ∷ is) = found_tests (tuple_of rows i) i is (matches_at rows m i) refl refl (tuples-found is)
+
     numbered_found : (o : Option Tuple) (i : ℕ) (is : List ℕ) → option_map (λ x. x.0) (found (λ x. matches m x.1) (numbered rows is)) ≡ found (matches_at rows m) is → option_map (λ x. x.0) (found (λ x. matches m x.1) (cons_option (option_map (λ t. (i, t)) o) (numbered rows is))) ≡ cond (matches_in m o) (Some i) (found (matches_at rows m) is)
     numbered_found None i is more = more
     numbered_found (Some t) i is more = found_step (λ x. x.0) (matches m t) (i, t) (found (λ x. matches m x.1) (numbered rows is)) (found (matches_at rows m) is) more
@@ -104,6 +119,25 @@ module _ (rows : List ChainRow) where
     pub tuples-without : (is : List ℕ) → tuples_at rows (without (matches_at rows m) is) ≡ without (matches m) (tuples_at rows is)
     tuples-without [] = refl
     tuples-without (i ∷ is) = without_tests (tuple_of rows i) i is (matches_at rows m i) refl refl (tuples-without is)
+
+    many_tests : (o : Option Tuple) (n : ℕ) (ts : List Tuple) → n ≡ many (matches m) ts → once (matches_in m o) + n ≡ many (matches m) (option_to_list o ++ ts)
+    many_tests None n ts e = omega (arith, e)
+    many_tests (Some x) n ts e = omega (arith, e)
+
+    pub tuples-many : (is : List ℕ) → many (matches_at rows m) is ≡ many (matches m) (tuples_at rows is)
+    tuples-many [] = refl
+    tuples-many (i ∷ is) = many_tests (tuple_of rows i) (many (matches_at rows m) is) (tuples_at rows is) (tuples-many is)
+
+    visited_tests : (o : Option ChainRow) (x : ChainRow) (n : ℕ) (ts : List Tuple) → o ≡ Some x → n ≡ visited (matches m) ts → 1 + cond (matches_in m (tuple_in o)) 0 n ≡ visited (matches m) (option_to_list (tuple_in o) ++ ts)
+    visited_tests None x n ts is e = absurd (let z : ◌≡◌ {A = ℕ} 0 1 = cc in omega arith)
+    visited_tests (Some y) x n ts is e = ap (λ k. 1 + cond (matches m y.tuple) 0 k) e
+
+    pub tuples-visited : (is : List ℕ) → ((j : ℕ) → 0 < times j is → j < length rows) → visited (matches_at rows m) is ≡ visited (matches m) (tuples_at rows is)
+    tuples-visited [] h = refl
+    tuples-visited (i ∷ is) h = elim (slice_get_cases rows i).1 [
+      | inl x ↦ visited_tests (slice_get rows i) x.0 (visited (matches_at rows m) is) (tuples_at rows is) x.2 (tuples-visited is (λ j b. h j (omega (arith, b))))
+      | inr x ↦ absurd (omega (arith, x.0, h i (omega (arith, once-self i i refl))))
+    ]
 
 -- rows whose tuples are kept
 pub tuples-same : (rows new : List ChainRow) (is : List ℕ) → ((j : ℕ) → 0 < times j is → tuple_of new j ≡ tuple_of rows j) → tuples_at new is ≡ tuples_at rows is

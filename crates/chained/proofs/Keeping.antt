@@ -1,5 +1,6 @@
 -- What the chains hold before and after a put, a take and a clear. Assumes nothing.
-use Rattle.std.proofs.Common.{◌≡◌, ℕ, ◌+◌, ◌<◌, ◌≤◌, min, true, false, cond, eqb, ltb, List, [], ◌∷◌, ◌++◌, length, Some, sym, refl, ap, ◌∙◌, arith}
+use Rattle.std.proofs.Common.{◌≡◌, ℕ, ◌+◌, ◌<◌, ◌≤◌, min, Bool, true, false, cond, eqb, ltb, List, [], ◌∷◌, ◌++◌, length, IfSome, Some, None, Option, sym, refl, ap, ◌∙◌, arith}
+use Rattle.std.specs.List.{slice_get}
 use Rattle.std.specs.Option.{option_to_list}
 use Rattle.std.proofs.lemmas.Bool.{eq-eqb, ne_eqb, lt-ltb, le-ltb, cond-true, cond-false}
 use Rattle.tuples.specs.Tuples.{Tuple, Template}
@@ -8,7 +9,7 @@ use Rattle.rows.specs.Bags.{once}
 use Rattle.rows.specs.Searches.{found, without}
 use Rattle.chained.specs.declared.row.ChainRow.{ChainRow}
 use Rattle.chained.specs.declared.ends.Ends.{Ends}
-use Rattle.chained.specs.Links.{next_of, tuple_of, tuples_at, numbered, ends_of, rows_of, room_for, upto, total, TupleStored, BeyondKept}
+use Rattle.chained.specs.Links.{next_of, tuple_in, tuple_of, tuples_at, numbered, ends_of, rows_of, room_for, upto, total, TupleStored, BeyondKept}
 use Rattle.chained.specs.Steps.{matches_at, Sound, Fresh, LinksKept, Moved}
 use Rattle.chained.proofs.Trails.{times, in_apart, trail-length}
 use Rattle.chained.proofs.Writing.{Stored}
@@ -16,7 +17,7 @@ use Rattle.chained.proofs.Totals.{total_le, total-one, total-same, total_none, t
 use Rattle.chained.proofs.Linking.{some_rows, forward_kept, both_kept}
 use Rattle.chained.proofs.Moving.{chain_inside, chains_apart}
 use Rattle.chained.proofs.Walking.{first_there, trail-end}
-use Rattle.chained.proofs.Holding.{without-found, tuples-append, tuples-length, numbered-length, tuples-without, tuples-same}
+use Rattle.chained.proofs.Holding.{found_in, without-found, tuples-append, tuples-length, tuple_found, tuples-found, numbered-length, tuples-without, tuples-same}
 
 -- what the chains hold
 abbrev pub held_at : List ChainRow → List Ends → ℕ → List Tuple
@@ -67,6 +68,12 @@ module _ (rows new : List ChainRow) (ends : List Ends) (sound : Sound rows ends)
     both = λ c l. both_kept rows new (ends_of ends c) (sound.both c l) (λ j h. links j);
   }
 
+-- a search in a chain finds a linked row
+module _ (rows : List ChainRow) (ends : List Ends) (sound : Sound rows ends) (c : ℕ) (low : c < 33) (p : ℕ → Bool) where
+  pub found_within : (o : Option ℕ) → o ≡ found p (rows_of rows ends c) → IfSome o (λ i. i < room_for rows)
+  found_within None e = tt
+  found_within (Some i) e = chain_inside rows ends sound c low i (found_in p i (rows_of rows ends c) (sym e))
+
 -- the first free row, and how much room there is
 module _ (rows : List ChainRow) (ends : List Ends) (sound : Sound rows ends) where
   pub first-free : 0 < (ends_of ends 32).many → 0 < times (ends_of ends 32).first (rows_of rows ends 32)
@@ -90,30 +97,44 @@ pub record PutIn (rows : List ChainRow) (ends : List Ends) (site at : ℕ) (t : 
   pub stored : TupleStored rows new at t
   pub beyond : BeyondKept rows new
 
-module _ (rows mid new : List ChainRow) (ends after : List Ends) (site at : ℕ) (t : Tuple) (sound : Sound rows ends) (low : site < 32) (free : 0 < times at (rows_of rows ends 32)) (moved : Moved rows ends mid after 32 at site) (written : Stored mid new at t) where
-  off_site : (c : ℕ) → c < 32 → times at (rows_of rows ends c) ≡ 0
-  off_site c l = chains_apart rows ends sound 32 c (omega arith) (omega arith) (λ z. omega arith) at free
+module _ (rows mid new : List ChainRow) (ends after : List Ends) (site at : ℕ) (t : Tuple) (sound : Sound rows ends) (low : site < 32) (free : 0 < times at (rows_of rows ends 32)) (moved : Moved rows ends mid after 32 at site) where
+  -- it has moved, and then the tuple has been written
+  module _ (links : (i : ℕ) → LinksKept mid new i) (tuples : TupleStored mid new at t) (len : length new ≡ length mid) where
+    off_site : (c : ℕ) → c < 32 → times at (rows_of rows ends c) ≡ 0
+    off_site c l = chains_apart rows ends sound 32 c (omega arith) (omega arith) (λ z. omega arith) at free
 
-  tuples_stored : TupleStored rows new at t
-  tuples_stored i = written.tuples i ∙ ap (cond (eqb i at) (Some t)) (moved.kept.tuples i)
+    tuples_stored : TupleStored rows new at t
+    tuples_stored i = tuples i ∙ ap (cond (eqb i at) (Some t)) (moved.kept.tuples i)
 
-  old_tuples : (c : ℕ) → c < 32 → tuples_at new (rows_of rows ends c) ≡ held_at rows ends c
-  old_tuples c l = tuples-same rows new (rows_of rows ends c) (λ j h. tuples_stored j ∙ cond-false (eqb j at) (Some t) (tuple_of rows j) (ne_eqb j at (in_apart j at (rows_of rows ends c) (off_site c l) h)))
+    old_tuples : (c : ℕ) → c < 32 → tuples_at new (rows_of rows ends c) ≡ held_at rows ends c
+    old_tuples c l = tuples-same rows new (rows_of rows ends c) (λ j h. tuples_stored j ∙ cond-false (eqb j at) (Some t) (tuple_of rows j) (ne_eqb j at (in_apart j at (rows_of rows ends c) (off_site c l) h)))
 
-  new_rows : (c : ℕ) → c < 33 → rows_of new after c ≡ rows_of mid after c
-  new_rows c l = forward_kept mid new (ends_of after c) (moved.sound.both c l) (λ j h. written.links j)
+    new_rows : (c : ℕ) → c < 33 → rows_of new after c ≡ rows_of mid after c
+    new_rows c l = forward_kept mid new (ends_of after c) (moved.sound.both c l) (λ j h. links j)
 
-  pub put_in : PutIn rows ends site at t new after
-  put_in =
-      let here : tuple_of new at ≡ Some t = tuples_stored at ∙ cond-true (eqb at at) (Some t) (tuple_of rows at) (eq-eqb at at refl) in
-      record {
-        sound = sound_kept mid new after moved.sound written.links written.as_long;
-        here = ap (tuples_at new) (new_rows site (omega arith) ∙ moved.come) ∙ tuples-append new (rows_of rows ends site) (at ∷ []) ∙ ap (λ ts. ts ++ tuples_at new (at ∷ [])) (old_tuples site low) ∙ ap (λ o. held_at rows ends site ++ (option_to_list o ++ [])) here;
-        rest = λ c l d. ap (tuples_at new) (new_rows c (omega arith) ∙ moved.rest c (omega arith) (λ z. omega arith) d) ∙ old_tuples c l;
-        count = omega (arith, total-one 32 site (λ c. (ends_of ends c).many) (λ c. (ends_of after c).many) low (λ c l d. ap (λ e. e.many) (moved.others c (λ z. omega arith) d)), moved.more);
-        stored = tuples_stored;
-        beyond = λ i h. written.beyond i h ∙ moved.kept.beyond i h;
-      }
+    pub put_sound : Sound new after
+    put_sound = sound_kept mid new after moved.sound links len
+
+    pub put_here : held_at new after site ≡ held_at rows ends site ++ (t ∷ [])
+    put_here =
+        let here : tuple_of new at ≡ Some t = tuples_stored at ∙ cond-true (eqb at at) (Some t) (tuple_of rows at) (eq-eqb at at refl) in
+        ap (tuples_at new) (new_rows site (omega arith) ∙ moved.come) ∙ tuples-append new (rows_of rows ends site) (at ∷ []) ∙ ap (λ ts. ts ++ tuples_at new (at ∷ [])) (old_tuples site low) ∙ ap (λ o. held_at rows ends site ++ (option_to_list o ++ [])) here
+
+    pub put_rest : (c : ℕ) → c < 32 → (c ≡ site → ⊥) → held_at new after c ≡ held_at rows ends c
+    put_rest c l d = ap (tuples_at new) (new_rows c (omega arith) ∙ moved.rest c (omega arith) (λ z. omega arith) d) ∙ old_tuples c l
+
+    pub put_count : row_count after ≡ row_count ends + 1
+    put_count = omega (arith, total-one 32 site (λ c. (ends_of ends c).many) (λ c. (ends_of after c).many) low (λ c l d. ap (λ e. e.many) (moved.others c (λ z. omega arith) d)), moved.more)
+
+  pub put_in : Stored mid new at t → PutIn rows ends site at t new after
+  put_in w = record {
+    sound = put_sound w.links w.tuples w.as_long;
+    here = put_here w.links w.tuples w.as_long;
+    rest = put_rest w.links w.tuples w.as_long;
+    count = put_count w.links w.tuples w.as_long;
+    stored = tuples_stored w.links w.tuples w.as_long;
+    beyond = λ i h. w.beyond i h ∙ moved.kept.beyond i h;
+  }
 
 -- what a take leaves: row `at`, the first that matches, has gone from the site's chain behind the free rows
 pub record TakenFrom (rows : List ChainRow) (ends : List Ends) (site : ℕ) (m : Template) (new : List ChainRow) (after : List Ends) : Type 0 where
@@ -127,6 +148,14 @@ taken_from rows new ends after site at m low is_found moved = record {
   rest = λ c l d. ap (tuples_at new) (moved.rest c (omega arith) d (λ z. omega arith)) ∙ tuples-same rows new (rows_of rows ends c) (λ j h. moved.kept.tuples j);
   count = omega (arith, total-one 32 site (λ c. (ends_of ends c).many) (λ c. (ends_of after c).many) low (λ c l d. ap (λ e. e.many) (moved.others c d (λ z. omega arith))), moved.fewer);
 }
+
+-- what a search among rows says of their tuples
+module _ (rows : List ChainRow) (is : List ℕ) (m : Template) where
+  pub none_got : None ≡ found (matches_at rows m) is → None ≡ found (matches m) (tuples_at rows is)
+  none_got e = ap (tuple_found rows m) e ∙ sym (tuples-found rows m is)
+
+  pub peek_got : (at : ℕ) (row : ChainRow) → Some at ≡ found (matches_at rows m) is → slice_get rows at ≡ Some row → Some row.tuple ≡ found (matches m) (tuples_at rows is)
+  peek_got at row e read = sym (ap tuple_in read) ∙ ap (tuple_found rows m) e ∙ sym (tuples-found rows m is)
 
 pub fresh_count : (rows : List ChainRow) (ends : List Ends) → Fresh rows ends → 0 ≡ row_count ends
 fresh_count rows ends f = sym (total-same 32 (λ _. 0) (λ c. (ends_of ends c).many) f.empty ∙ total_none 32)

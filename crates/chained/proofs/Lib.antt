@@ -11,3 +11,4 @@ pub mod Holding
 pub mod Keeping
 pub mod Spacing
 pub mod Places
+pub mod Putting

@@ -5,7 +5,7 @@ use Rattle.rows.specs.Searches.{without}
 use Rattle.chained.specs.declared.row.ChainRow.{ChainRow}
 use Rattle.chained.specs.declared.ends.Ends.{Ends}
 use Rattle.chained.specs.Links.{next_in, prev_in, next_of, prev_of, trail, forward, backward, room_for, BothWays, Kept}
-use Rattle.chained.specs.Steps.{led, SoundChain, LinksKept}
+use Rattle.chained.specs.Steps.{led, Single, Inside, LinksKept}
 use Rattle.chained.proofs.Trails.{times, in_apart, led_off, trail_kept}
 use Rattle.chained.proofs.Writing.{Relinked, kept_twice}
 use Rattle.chained.proofs.Chaining.{turned, times_back, before_in, last_in, detached, attached}
@@ -15,32 +15,32 @@ some_rows f zero i x h = absurd (omega arith)
 some_rows f (suc n) i x h = omega arith
 
 -- a row of a chain
-module _ (rows : List ChainRow) (e : Ends) (at : ℕ) (chain : SoundChain rows e) (here : 0 < times at (forward rows e)) where
+module _ (rows : List ChainRow) (e : Ends) (at : ℕ) (both : BothWays rows e) (here : 0 < times at (forward rows e)) where
   -- the rows beside it lie in the chain
   prev_on_chain : (at ≡ e.first → ⊥) → 0 < times (prev_of rows at) (forward rows e)
-  prev_on_chain off = before_in (next_of rows) (prev_of rows) e.many e.first e.last chain.both at here off
+  prev_on_chain off = before_in (next_of rows) (prev_of rows) e.many e.first e.last both at here off
 
   next_on_chain : (at ≡ e.last → ⊥) → 0 < times (next_of rows at) (forward rows e)
   next_on_chain off =
-      let count = times_back (next_of rows) (prev_of rows) e.many e.first e.last chain.both in
-      let some = before_in (prev_of rows) (next_of rows) e.many e.last e.first (turned (next_of rows) (prev_of rows) e.many e.first e.last chain.both) at (omega (arith, here, count at)) off in
+      let count = times_back (next_of rows) (prev_of rows) e.many e.first e.last both in
+      let some = before_in (prev_of rows) (next_of rows) e.many e.last e.first (turned (next_of rows) (prev_of rows) e.many e.first e.last both) at (omega (arith, here, count at)) off in
       omega (arith, some, count (next_of rows at))
 
-  pub prev_inside : (at ≡ e.first → ⊥) → prev_of rows at < room_for rows
-  prev_inside off = chain.inside (prev_of rows at) (prev_on_chain off)
+  pub prev_inside : Inside rows e → (at ≡ e.first → ⊥) → prev_of rows at < room_for rows
+  prev_inside inside off = inside (prev_of rows at) (prev_on_chain off)
 
-  pub next_inside : (at ≡ e.last → ⊥) → next_of rows at < room_for rows
-  next_inside off = chain.inside (next_of rows at) (next_on_chain off)
+  pub next_inside : Inside rows e → (at ≡ e.last → ⊥) → next_of rows at < room_for rows
+  next_inside inside off = inside (next_of rows at) (next_on_chain off)
 
   pub record TakenOut (new : List ChainRow) (r : Ends) : Type 0 where
     pub gone : forward new r ≡ without (eqb at) (forward rows e)
-    pub both : BothWays new r
+    pub two_way : BothWays new r
     pub fewer : r.many + 1 ≡ e.many
     pub rest : (i : ℕ) → times i (forward rows e) ≡ 0 → LinksKept rows new i
     pub kept : Kept rows new
 
   -- the row before it leads past it, and then the row behind it leads back past it
-  module _ (mid new : List ChainRow) (first last : ℕ) (is-first : first ≡ cond (eqb at e.first) (next_of rows at) e.first) (is_last : last ≡ cond (eqb at e.last) (prev_of rows at) e.last) (on : Relinked next_in prev_in (eqb at e.first) (prev_of rows at) (next_of rows at) rows mid) (back : Relinked prev_in next_in (eqb at e.last) (next_of rows at) (prev_of rows at) mid new) where
+  module _ (single : Single rows e) (mid new : List ChainRow) (first last : ℕ) (is-first : first ≡ cond (eqb at e.first) (next_of rows at) e.first) (is_last : last ≡ cond (eqb at e.last) (prev_of rows at) e.last) (on : Relinked next_in prev_in (eqb at e.first) (prev_of rows at) (next_of rows at) rows mid) (back : Relinked prev_in next_in (eqb at e.last) (next_of rows at) (prev_of rows at) mid new) where
     nexts : (j : ℕ) → next_of new j ≡ cond (eqb at e.first) (next_of rows j) (led (next_of rows) (prev_of rows at) (next_of rows at) j)
     nexts j = back.same j ∙ on.written j
 
@@ -51,10 +51,10 @@ module _ (rows : List ChainRow) (e : Ends) (at : ℕ) (chain : SoundChain rows e
     taken_out =
         let some : 0 < e.many = some_rows (next_of rows) e.many e.first at here in
         let one : suc (e.many - 1) ≡ e.many = omega arith in
-        let d = detached (next_of rows) (prev_of rows) (next_of new) (prev_of new) (e.many - 1) e.first e.last at e.many one chain.both chain.single here nexts prevs in
+        let d = detached (next_of rows) (prev_of rows) (next_of new) (prev_of new) (e.many - 1) e.first e.last at e.many one both single here nexts prevs in
         record {
           gone = ap (trail (next_of new) (e.many - 1)) is-first ∙ d.forth;
-          both = ap (trail (prev_of new) (e.many - 1)) is_last ∙ d.back ∙ ap (λ z. reverse (trail (next_of new) (e.many - 1) z)) (sym is-first);
+          two_way = ap (trail (prev_of new) (e.many - 1)) is_last ∙ d.back ∙ ap (λ z. reverse (trail (next_of new) (e.many - 1) z)) (sym is-first);
           fewer = omega arith;
           rest = λ i off. (
             elim (cases_eq at e.first) [
@@ -70,22 +70,22 @@ module _ (rows : List ChainRow) (e : Ends) (at : ℕ) (chain : SoundChain rows e
         }
 
 -- a row that is put behind a chain
-module _ (rows : List ChainRow) (e : Ends) (at : ℕ) (chain : SoundChain rows e) where
+module _ (rows : List ChainRow) (e : Ends) (at : ℕ) (both : BothWays rows e) where
   last_in_chain : 0 < e.many → 0 < times e.last (forward rows e)
-  last_in_chain h = last_in (next_of rows) (prev_of rows) e.many e.first e.last chain.both h
+  last_in_chain h = last_in (next_of rows) (prev_of rows) e.many e.first e.last both h
 
-  pub last_inside : 0 < e.many → e.last < room_for rows
-  last_inside h = chain.inside e.last (last_in_chain h)
+  pub last_inside : Inside rows e → 0 < e.many → e.last < room_for rows
+  last_inside inside h = inside e.last (last_in_chain h)
 
   pub record PutBehind (new : List ChainRow) (r : Ends) : Type 0 where
     pub come : forward new r ≡ forward rows e ++ (at ∷ [])
-    pub both : BothWays new r
+    pub two_way : BothWays new r
     pub more : r.many ≡ e.many + 1
     pub rest : (i : ℕ) → times i (forward rows e) ≡ 0 → (i ≡ at → ⊥) → LinksKept rows new i
     pub kept : Kept rows new
 
   -- the last row leads on to it, and then it leads back to the last row
-  module _ (alone : times at (forward rows e) ≡ 0) (mid new : List ChainRow) (first : ℕ) (is-first : first ≡ cond (eqb e.many 0) at e.first) (on : Relinked next_in prev_in (eqb e.many 0) e.last at rows mid) (back : Relinked prev_in next_in false at e.last mid new) where
+  module _ (single : Single rows e) (alone : times at (forward rows e) ≡ 0) (mid new : List ChainRow) (first : ℕ) (is-first : first ≡ cond (eqb e.many 0) at e.first) (on : Relinked next_in prev_in (eqb e.many 0) e.last at rows mid) (back : Relinked prev_in next_in false at e.last mid new) where
     on_nexts : (j : ℕ) → next_of new j ≡ cond (eqb e.many 0) (next_of rows j) (led (next_of rows) e.last at j)
     on_nexts j = back.same j ∙ on.written j
 
@@ -94,11 +94,11 @@ module _ (rows : List ChainRow) (e : Ends) (at : ℕ) (chain : SoundChain rows e
 
     pub put_behind : PutBehind new (record { first = first; last = at; many = e.many + 1 })
     put_behind =
-        let a = attached (next_of rows) (prev_of rows) (next_of new) (prev_of new) e.first e.last at e.many chain.both chain.single alone on_nexts on_prevs in
+        let a = attached (next_of rows) (prev_of rows) (next_of new) (prev_of new) e.first e.last at e.many both single alone on_nexts on_prevs in
         let forth : trail (next_of new) (e.many + 1) first ≡ trail (next_of new) (suc e.many) (cond (eqb e.many 0) at e.first) = (λ t. trail (next_of new) (add-one e.many t) (is-first t)) in
         record {
           come = forth ∙ a.forth;
-          both = ap (λ n. trail (prev_of new) n at) (add-one e.many) ∙ a.back ∙ ap reverse (sym forth);
+          two_way = ap (λ n. trail (prev_of new) n at) (add-one e.many) ∙ a.back ∙ ap reverse (sym forth);
           more = refl;
           rest = λ i off other. (
             elim (cases_eq e.many 0) [

@@ -49,12 +49,17 @@ module _ (rows : List ChainRow) (ends : List Ends) (sound : Sound rows ends) whe
     pub to_kept : forward mid (ends_of ends to) ≡ rows_of rows ends to
     to_kept = forward_kept rows mid (ends_of ends to) (sound.both to lt) (λ j h. out j (from_to j h))
 
+    pub to_both : BothWays mid (ends_of ends to)
+    to_both = both_kept rows mid (ends_of ends to) (sound.both to lt) (λ j h. out j (from_to j h))
+
+    pub to_single : Single mid (ends_of ends to)
+    to_single k = omega (arith, ap (times k) to_kept, chain_single to lt k)
+
+    pub to_inside : length mid ≡ length rows → Inside mid (ends_of ends to)
+    to_inside len k h = omega (arith, len, chain_inside to lt k (omega (arith, ap (times k) to_kept, h)))
+
     pub to_chain : length mid ≡ length rows → SoundChain mid (ends_of ends to)
-    to_chain len = record {
-      both = both_kept rows mid (ends_of ends to) (sound.both to lt) (λ j h. out j (from_to j h));
-      single = λ k. omega (arith, ap (times k) to_kept, chain_single to lt k);
-      inside = λ k h. omega (arith, len, chain_inside to lt k (omega (arith, ap (times k) to_kept, h)));
-    }
+    to_chain len = record { both = to_both; single = to_single; inside = to_inside len }
 
     to_alone_before : times at (rows_of rows ends to) ≡ 0
     to_alone_before = chains_apart from to lf lt ne at here

@@ -8,7 +8,7 @@ use crate::row::ChainRow;
 // An arena of rows named by number: the rows are the caller's memory, with no heap.
 /// At most 4,096 rows of the caller's memory, linked into a chain for each of the 32 sites and one of free rows, the last.
 #[derive(Drop)]
-pub(crate) struct Chains<'a> {
+pub struct Chains<'a> {
     rows: &'a mut [ChainRow],
     ends: [Ends; CHAINS],
     used: usize,

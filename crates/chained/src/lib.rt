@@ -2,7 +2,7 @@
 #![tactic(auto)]
 
 mod chain;
-mod chains;
+pub mod chains;
 mod ends;
 mod free;
 pub mod laws;
@@ -12,6 +12,7 @@ pub mod space;
 
 #[cfg(test)]
 mod tests {
+    use crate::chains::Chains;
     use crate::row::ChainRow;
     use crate::space::ChainedSpace;
     use spaces::space::Space;
@@ -40,5 +41,20 @@ mod tests {
         assert!(rt; space.size() == 2);
         space.clear();
         assert!(rt; space.size() == 0);
+    }
+
+    #[test]
+    fn chains_outlive_a_space(rt: HostRuntime) {
+        let one = Tuple::new(&[Field::Num(1)]).unwrap();
+        let any = Template::new(&[Place::Formal(FieldType::Num)]).unwrap();
+        let mut memory = [ChainRow::blank(); 2];
+        let mut first = ChainedSpace::from_chains(Chains::over(&mut memory));
+        assert!(rt; first.put(4, one).is_ok());
+        let chains = first.into_chains();
+        let mut second = ChainedSpace::from_chains(chains);
+        assert!(rt; second.limit() == 2);
+        assert!(rt; second.size() == 1);
+        assert!(rt; second.take(4, &any) == Some(one));
+        assert!(rt; second.take(4, &any) == None);
     }
 }

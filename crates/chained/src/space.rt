@@ -37,6 +37,21 @@ impl<'a> ChainedSpace<'a> {
         }
     }
 
+    /// The space of what the chains hold.
+    pub fn from_chains(chains: Chains<'a>) -> ChainedSpace<'a>
+        ensures chains { chains_of result ≡ chains.entry }
+    {
+        ChainedSpace { chains }
+    }
+
+    /// The chains, with what the space holds, so that a space can be made of them again.
+    pub fn into_chains(self) -> Chains<'a>
+        ensures chains { result ≡ chains_of self.entry }
+    {
+        let ChainedSpace { chains } = self;
+        chains
+    }
+
     /// How many rows a take or a peek looks at: those of the site's chain up to the first that matches, or all of them.
     pub fn visits(&self, site: usize, template: &Template) -> usize
         ensures { result ≡ visited (matches template.now) (chain_of self.now site) }
@@ -88,8 +103,7 @@ impl<'a> Space for ChainedSpace<'a> {
         ensures lent { (chains_of self.new).rows.ghost_name ≡ (chains_of self.old).rows.ghost_name }
     {
         let site = Site::new(site).ok_or(PutRefusal::NoSuchSite)?;
-        self.chains.put(site, tuple)?;
-        Ok(())
+        self.chains.put(site, tuple).or(Err(PutRefusal::Full))
     }
 
     fn take(&mut self, site: usize, template: &Template) -> Option<Tuple>

@@ -10,7 +10,7 @@ use Rattle.lex.specs.declared.Kind.TheVariants.{Reserved, Name, Sign}
 use Rattle.lex.specs.declared.Token.{Token}
 use Rattle.lex.specs.declared.refusal.Refusal.{Refusal}
 use Rattle.syntax.specs.Limits.{strict}
-use Rattle.syntax.specs.Machine.{Sym, many, proc, item, opening, closing, sign, Repeat, aliases, bars, lines, line_key, unexpected, deep, go, tag, heads, body, opens, verb, acted, worded, step, run}
+use Rattle.syntax.specs.Machine.{Sym, many, proc, item, opening, closing, sign, Repeat, aliases, bars, lines, line_key, unexpected, deep, go, tag, is_key, heads, body, opens, verb, acted, worded, step, run}
 use Rattle.grammar.specs.Reads.{unread, Taken, Accepted, Other, Reads, ReadsIn, answer}
 use Rattle.grammar.specs.declared.unread.Unread.{Unread}
 use Rattle.syntax.proofs.Shape.{key-is, name-is, sign-is}
@@ -60,6 +60,10 @@ module _ {u v : Unread} {t : Token} (next : Taken u t v) where
   at-word w is k =
       ap (run (item ∷ k)) next.first ∙ run-plain (item ∷ k) t _ (worded k w) (ap (step strict (item ∷ k)) is)
       ∙ ap (λ (ts : List Tok). answer t.start ts (worded k w)) (cond-false _ _ _ (ap is_end is))
+
+  -- `nil` is the whole of an item
+  pub nil_goes : (k : List Sym) → is_key Nil t.kind ≡ true → run (item ∷ k) (unread u) ≡ run k (unread v)
+  nil_goes k h = goes next (item ∷ k) k (ap (step strict (item ∷ k)) (key-is Nil t.kind h))
 
   -- an action's word leaves the action and its dot to come, and an item behind them
   pub prefix_goes : (w : Keyword) → t.kind ≡ Reserved w → w ≢ Nil → (k : List Sym) → run (item ∷ k) (unread u) ≡ answer t.start (unread v) (acted k (verb w))

@@ -1,6 +1,6 @@
 -- What the machine does at the token that is taken.
-use Rattle.std.proofs.Common.{◌≡◌, ℕ, zero, suc, ◌+◌, ◌≢◌, true, false, List, [], ◌∷◌, ◌++◌, Some, None, Ok, Err, Option, Result, sym, refl, ap, ◌∙◌, arith}
-use Rattle.std.proofs.lemmas.Bool.{cond-true, cond-false, false_from_ne_true}
+use Rattle.std.proofs.Common.{◌≡◌, ℕ, zero, suc, ◌+◌, ◌≢◌, Bool, true, false, List, [], ◌∷◌, ◌++◌, Some, None, Ok, Err, Option, Result, sym, refl, ap, ◌∙◌, arith}
+use Rattle.std.proofs.lemmas.Bool.{cond-true, cond-false, false≢true, false_from_ne_true}
 use Rattle.std.specs.Result.{IsErrAnd}
 use Rattle.lex.specs.Next.{Stray, plain, is_end}
 use Rattle.lex.specs.Refusals.{told}
@@ -10,10 +10,11 @@ use Rattle.lex.specs.declared.Kind.TheVariants.{End, Reserved, Name, Variable as
 use Rattle.lex.specs.declared.Token.{Token}
 use Rattle.lex.specs.declared.refusal.Refusal.{Refusal}
 use Rattle.syntax.specs.Limits.{strict}
-use Rattle.syntax.specs.Machine.{Sym, leaf, entry, more, sign, Why, number, Step, go, no, done, is_sign, opens, step, run}
+use Rattle.syntax.specs.Machine.{Sym, leaf, entry, more, upto, sign, Why, unexpected, number, Step, go, no, done, fits, starts, is_sign, opens, step, run}
 use Rattle.syntax.specs.declared.Entries.{Entries}
 use Rattle.syntax.specs.declared.Entries.TheVariants.{Params}
-use Rattle.syntax.specs.declared.Terminal.TheVariants.{Variable, TypeWord}
+use Rattle.syntax.specs.declared.Terminal.{Terminal}
+use Rattle.syntax.specs.declared.Terminal.TheVariants.{Sign as ASign, Name as AName, Variable, TypeWord, Target}
 use Rattle.syntax.proofs.Exact.{go_apart}
 use Rattle.syntax.proofs.Shape.{sign-is}
 use Rattle.grammar.specs.Reads.{unread, Onward, Taken, Accepted, Other, Reads, ReadsIn, answer}
@@ -29,6 +30,26 @@ run-plain k t ts s e =
     same (go k') = refl
     same (no w) = refl
     same done = refl
+
+-- a token that passes a test which the text's end fails is not the text's end
+pub not_end : (f : Kind → Bool) → f End ≡ false → (q : Kind) → f q ≡ true → is_end q ≡ false
+not_end f z End h = absurd (false≢true (sym z ∙ h))
+not_end f z (Reserved w) h = refl
+not_end f z Name h = refl
+not_end f z AVariable h = refl
+not_end f z Word h = refl
+not_end f z (Number v) h = refl
+not_end f z (Sign b) h = refl
+
+fits-end : (c : Terminal) → fits c End ≡ false
+fits-end (ASign b) = refl
+fits-end AName = refl
+fits-end Variable = refl
+fits-end TypeWord = refl
+fits-end Target = refl
+
+pub fits_more : (c : Terminal) (q : Kind) → fits c q ≡ true → is_end q ≡ false
+fits_more c q h = not_end (fits c) (fits-end c) q h
 
 -- a token of no kind is refused whatever is to come
 pub strays : {text : List ℕ} {at : ℕ} {p : Refusal × ℕ} → Stray text at p → (k : List Sym) → run k (from text at) ≡ told p
@@ -92,6 +113,9 @@ module _ {u v : Unread} {t : Token} (next : Taken u t v) where
   pub ends : is_end t.kind ≡ true → run [] (unread u) ≡ (0, t.start)
   ends h = ap (run []) next.first ∙ run-plain [] t _ done (cond-true _ _ _ h)
 
+  pub no_more : is_end t.kind ≡ false → run [] (unread u) ≡ (2, t.start)
+  no_more h = refuses [] unexpected (cond-false _ _ _ h)
+
   -- the token is the whole of what stands for s
   pub alone : (s : Sym) → ((k : List Sym) → step strict (s ∷ k) t.kind ≡ go k) → Reads (s ∷ []) u (Ok v)
   alone s steps = (onward (not_last (s ∷ []) [] t.kind (steps [])), λ k. goes (s ∷ k) k (steps k))
@@ -99,6 +123,13 @@ module _ {u v : Unread} {t : Token} (next : Taken u t v) where
   -- nothing of s stands here
   pub skips : (s : Sym) → ((k : List Sym) → step strict (s ∷ k) t.kind ≡ step strict k t.kind) → Reads (s ∷ []) u (Ok u)
   skips s same = (stays u, λ k. alike (s ∷ k) k (same k))
+
+  -- a list that may be empty begins, or does not
+  pub upto_some : (E : Entries) (r : Result Unread (Refusal × ℕ)) → starts E t.kind ≡ true → Reads (entry E ∷ more E 3 ∷ []) u r → Reads (upto E ∷ []) u r
+  upto_some E r is h = along (upto E ∷ []) (entry E ∷ more E 3 ∷ []) r (stays u) (λ k. alike (upto E ∷ k) (entry E ∷ more E 3 ∷ k) (cond-true _ _ _ is)) h
+
+  pub upto_none : (E : Entries) → starts E t.kind ≡ false → Reads (upto E ∷ []) u (Ok u)
+  upto_none E is = skips (upto E) (λ k. cond-false _ _ _ is)
 
 -- the token of this kind is taken
 module _ {kind : Kind} {u v : Unread} (took : Accepted kind u v) where

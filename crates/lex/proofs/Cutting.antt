@@ -61,7 +61,7 @@ behind text run at from e r =
     rw (n, e) refl
 
 -- the place of the next token is behind the blanks
-from_blanks : (text : List ℕ) (at start : ℕ) → Behind text at start → start ≤ length text → from text at ≡ toks start 0 (drop start text)
+pub from_blanks : (text : List ℕ) (at start : ℕ) → Behind text at start → start ≤ length text → from text at ≡ toks start 0 (drop start text)
 from_blanks text at start e h =
     let a = min at (length text) in
     let b : a ≤ length text = omega arith in
@@ -134,6 +134,9 @@ module _ (text : List ℕ) (at start : ℕ) (e : Behind text at start) (lt : sta
   pub next_cut : (r : Option Token) → Cuts (drop start text) T r → Next text at (ok_or r (NotAllowed, start))
   next_cut (Some t) c = found t c
   next_cut None c = record { tok = T; rest = toks (suc start) (T.end - suc start) (drop (suc start) text); first = begins; odd = c; told = ap (λ n. (NotAllowed, n)) (sym (tok-start start (drop start text))) }
+
+pub no_bytes : (xs : List ℕ) (a : ℕ) → take (a - a) xs ≡ []
+no_bytes xs a = let z : a - a ≡ 0 = omega arith in rw z
 
 -- what is left of the text from a place on
 pub whole-rest : (text : List ℕ) (start : ℕ) (r : Option Token) → Cuts (take (length text - start) (drop start text)) (tok_at start (take (length text - start) (drop start text))) r → Cuts (drop start text) (tok_at start (drop start text)) r

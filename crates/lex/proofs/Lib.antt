@@ -1,3 +1,4 @@
 pub mod Cutting
 pub mod Ends
+pub mod Pieces
 pub mod Runs

@@ -1,15 +1,19 @@
 -- Runs of bytes of one class.
-use Rattle.std.proofs.Common.{◌≡◌, ℕ, ◌≤◌, ◌-◌, Decides, take, drop, subst, add-zero, get_or-drop, length-drop, refl, ◌<◌, Bool, true, false, cond, leb, List, [], ◌∷◌, length, get_or, Some, None, Option, ap, ◌∙◌, arith}
+use Rattle.std.proofs.Common.{◌≡◌, ℕ, ◌≤◌, ◌-◌, Decides, take, drop, subst, add-zero, get_or-drop, length-drop, refl, ◌<◌, Bool, true, false, cond, leb, List, [], ◌∷◌, length, get_or, Some, None, Option, ap, ◌∙◌, ⊎_elim, arith}
 use Rattle.std.specs.List.{take_while}
 use Rattle.std.proofs.lemmas.List.Sums.{take_while-cons}
-use Rattle.std.proofs.lemmas.List.{take_all}
-use Rattle.std.proofs.lemmas.Bool.{both_ways, false≢true}
+use Rattle.std.proofs.lemmas.List.{take_all, get_or_past}
+use Rattle.std.proofs.lemmas.Bool.{both_ways, cases_lt, false≢true}
 use Rattle.std.specs.Char.{is_ascii_digit}
 use Rattle.lex.specs.Bytes.{reserved, run_kind}
 use Rattle.lex.specs.Next.{is_end}
 use Rattle.lex.specs.declared.Keyword.{Keyword}
 use Rattle.lex.specs.declared.Kind.{Kind}
 use Rattle.lex.specs.declared.Kind.TheVariants.{Reserved, Name}
+
+-- a byte that passes a test which 0 fails is within the list
+pub stands_within : (p : ℕ → Bool) → p 0 ≡ false → (xs : List ℕ) (i : ℕ) → p (get_or xs i 0) ≡ true → i < length xs
+stands_within p z xs i h = ⊎_elim (λ lt. lt) (λ le. absurd (both_ways (p (get_or xs i 0)) (ap p (get_or_past xs i 0 le) ∙ z) h)) (cases_lt i (length xs))
 
 kind_goes : (o : Option Keyword) (b : Bool) (k : Kind) → Some k ≡ (elim o as (λ _. Option Kind) [ Some w ↦ Some (Reserved w) | None ↦ cond b (Some Name) None ]) → is_end k ≡ false
 kind_goes (Some w) b k e = cc

@@ -1,5 +1,5 @@
--- What a ring's rows in use become when a row is added or taken out. Assumes nothing.
-use Rattle.std.proofs.Common.{◌≡◌, ℕ, suc, ◌+◌, ◌-◌, ◌<◌, ◌≤◌, min, Bool, List, [], ◌∷◌, ◌++◌, length, get_or, take, drop, set, Some, Option, sym, ap, ◌∙◌, inl, inr, arith}
+-- What a ring's rows in use become when a row is added, sought or taken out. Assumes nothing.
+use Rattle.std.proofs.Common.{◌≡◌, ℕ, suc, ◌+◌, ◌-◌, ◌<◌, ◌≤◌, min, Bool, List, [], ◌∷◌, ◌++◌, length, get_or, take, drop, set, Some, None, Option, sym, ap, ◌∙◌, inl, inr, arith}
 use lib.Seq.{take-append-add}
 use Rattle.std.specs.List.{remove}
 use Rattle.std.proofs.lemmas.List.{length-take, length-take-le, length-drop, get_or-take, take_all, take-take, take-append-le, take_more_set, drop-take, append-nil}
@@ -7,7 +7,8 @@ use Rattle.std.proofs.lemmas.Bool.{cases_lt}
 use Rattle.rows.specs.Searches.{place_from, found, without}
 use Rattle.rows.proofs.Searching.{first-at}
 use Rattle.rings.specs.Circles.{turned, spot, next, raised_up}
-use Rattle.rings.proofs.Turning.{length_circle, get_or-circle, circle_set, turned-next}
+use Rattle.rings.proofs.Seeking.{place_left, place_right, place_shift, none_shift}
+use Rattle.rings.proofs.Turning.{length-turned, length_circle, get_or-circle, circle_set, turned-next}
 use Rattle.rings.proofs.Raising.{raised_from, raised_more, drop_raised}
 
 module _ {X : Type 0} where
@@ -43,6 +44,10 @@ module _ {X : Type 0} where
       ap (λ k. take k (remove xs at)) (sym parts)
       ∙ take-append-add (take at xs) (drop (suc at) xs) (n - 1 - at)
       ∙ (λ j. sym (take-take at n xs (omega arith)) j ++ (sym (drop-take (suc at) (n - 1 - at) xs) ∙ ap (λ k. drop (suc at) (take k xs)) whole) j)
+
+  -- how many the first n of a circle are
+  pub length_ringed : (w s n : ℕ) (xs : List X) → length (take n (turned s (take w xs))) ≡ min n (min w (length xs))
+  length_ringed w s n xs = omega (arith, length-take n (turned s (take w xs)), length-turned s (take w xs), length-take w xs)
 
   module _ (w s n : ℕ) (xs : List X) (few : w ≤ length xs) (inside : s < w) where
     pub ring_added : (x : X) → n < w → spot w s n < w → take (n + 1) (turned s (take w (set xs (spot w s n) x))) ≡ take n (turned s (take w xs)) ++ (x ∷ [])
@@ -84,3 +89,25 @@ module _ {X : Type 0} where
                 ∙ take_removed (turned s (take w xs)) at n here (omega arith)
                 ∙ sym one.is-out;
           }
+
+-- a search up to the end of a circle's rows, and one from their front
+module _ {X : Type 0} (p : X → Bool) (s used older : ℕ) (xs : List X) (inside : s ≤ length xs) (few : used ≤ length xs) (is : older ≡ min used (length xs - s)) where
+  parts : take used (turned s xs) ≡ take older (drop s xs) ++ take (used - older) xs
+  parts = take-turned s used older xs inside few is
+
+  long : older ≡ 0 + length (take older (drop s xs))
+  long = omega (arith, length-take older (drop s xs), length-drop s xs)
+
+  pub seek_older : (i : ℕ) (as' : List X) → as' ≡ take older (drop s xs) → Some i ≡ place_from 0 p as' → Some i ≡ place_from 0 p (take used (turned s xs))
+  seek_older i as' e f = place_left p 0 i (take older (drop s xs)) (take (used - older) xs) (f ∙ ap (place_from 0 p) e) ∙ ap (place_from 0 p) (sym parts)
+
+  rest : (as' : List X) → as' ≡ take older (drop s xs) → None ≡ place_from 0 p as' → place_from 0 p (take used (turned s xs)) ≡ place_from older p (take (used - older) xs)
+  rest as' e f = ap (place_from 0 p) parts ∙ place_right p 0 older (take older (drop s xs)) (take (used - older) xs) long (f ∙ ap (place_from 0 p) e)
+
+  pub seek_newer : (i : ℕ) (as' bs : List X) → as' ≡ take older (drop s xs) → bs ≡ take (used - older) xs → None ≡ place_from 0 p as' → Some i ≡ place_from 0 p bs → Some (older + i) ≡ place_from 0 p (take used (turned s xs))
+  seek_newer i as' bs e e' f f' =
+      let zero_more : older + 0 ≡ older = omega arith in
+      place_shift p older 0 i (take (used - older) xs) (f' ∙ ap (place_from 0 p) e') ∙ ap (λ k. place_from k p (take (used - older) xs)) zero_more ∙ sym (rest as' e f)
+
+  pub seek_none : (as' bs : List X) → as' ≡ take older (drop s xs) → bs ≡ take (used - older) xs → None ≡ place_from 0 p as' → None ≡ place_from 0 p bs → None ≡ place_from 0 p (take used (turned s xs))
+  seek_none as' bs e e' f f' = none_shift p older 0 (take (used - older) xs) (f' ∙ ap (place_from 0 p) e') ∙ sym (rest as' e f)

@@ -11,6 +11,12 @@ spot-before n s i h = cond-true (ltb i (n - s)) (s + i) (i - (n - s)) (lt-ltb i 
 pub spot-behind : (n s i : ℕ) → n - s ≤ i → spot n s i ≡ i - (n - s)
 spot-behind n s i h = cond-false (ltb i (n - s)) (s + i) (i - (n - s)) (le-ltb i (n - s) h)
 
+pub next-within : (n s : ℕ) → s < n → next n s < n
+next-within n s h = elim (cases_lt s (n - 1)) [
+  | inl l ↦ omega (arith, cond-true (ltb s (n - 1)) (s + 1) 0 (lt-ltb s (n - 1) l))
+  | inr l ↦ omega (arith, cond-false (ltb s (n - 1)) (s + 1) 0 (le-ltb s (n - 1) l))
+]
+
 module _ {X : Type 0} where
   pub length-turned : (s : ℕ) (xs : List X) → length (turned s xs) ≡ length xs
   length-turned s xs = omega (arith, length-append (drop s xs) (take s xs), length-drop s xs, length-take s xs)

@@ -1,5 +1,5 @@
 -- A gap that is closed by moving the later elements down by one. Assumes nothing.
-use Rattle.std.proofs.Common.{◌≡◌, ℕ, suc, ◌+◌, ◌-◌, ◌<◌, ◌≤◌, Bool, List, ◌++◌, length, get_or, take, drop, Some, None, Option, sym, ap, ◌∙◌, add-one, arith}
+use Rattle.std.proofs.Common.{◌≡◌, ℕ, suc, ◌+◌, ◌-◌, ◌<◌, ◌≤◌, Bool, List, ◌++◌, length, get_or, take, drop, Some, None, Option, sym, ap, ◌∙◌, add-one, arith, length-append, length-drop}
 use Rattle.std.specs.List.{remove, copy_within}
 use Rattle.std.proofs.lemmas.List.{length-take-le, take_at, take-take, drop-take, get_or-take}
 use Rattle.std.proofs.lemmas.List.Edits.{length-remove}
@@ -23,6 +23,13 @@ module _ {X : Type 0} (xs : List X) (at used : ℕ) (here : at < used) where
       let short : length (take used xs) ≡ used = length-take-le used xs within in
       take_at (remove (take used xs) at) (drop (used - 1) xs) (used - 1) (omega (arith, length-remove (take used xs) at (omega (arith, short)), short))
 
+  -- all rows are there still
+  pub length_closed : used ≤ length xs → length (closed_up at used xs) ≡ length xs
+  length_closed within =
+      let short : length (take used xs) ≡ used = length-take-le used xs within in
+      let in_use : at < length (take used xs) = omega arith in
+      omega (arith, length-append (remove (take used xs) at) (drop (used - 1) xs), length-drop (used - 1) xs, length-remove (take used xs) at in_use, short)
+
 module _ {X : Type 0} (p : X → Bool) (used : ℕ) (xs : List X) where
   -- o has been taken out of the rows in use, which leaves the first `left` of zs
   pub record Taken (o : Option X) (left : ℕ) (zs : List X) : Type 0 where
@@ -45,5 +52,5 @@ module _ {X : Type 0} (p : X → Bool) (used : ℕ) (xs : List X) where
   -- no row in use passes
   pub untaken : None ≡ place_from 0 p (take used xs) → Taken None used xs
   untaken e =
-      let none = missed p (take used xs) (sym e) in
+      let none = missed p 0 (take used xs) (sym e) in
       record { got = sym none.none; after = sym none.kept; memory = ap (λ o. closed_at o used xs) e }

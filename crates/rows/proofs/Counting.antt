@@ -1,14 +1,31 @@
 -- How many of a list pass a test. Assumes nothing.
-use Rattle.std.proofs.Common.{◌≡◌, ℕ, ◌+◌, ◌<◌, ◌≤◌, Bool, true, false, cond, List, [], ◌∷◌, ◌++◌, map, length, is_ok, Some, None, Ok, Err, Decides, Option, Result, sym, refl, ap, ◌∙◌, arith, MatchOption, MatchResult}
+use Rattle.std.proofs.Common.{◌≡◌, ℕ, ◌+◌, ◌<◌, ◌≤◌, Bool, true, false, cond, List, [], ◌∷◌, ◌++◌, map, length, get_or, take, is_ok, Some, None, Ok, Err, Decides, Option, Result, sym, refl, ap, ◌∙◌, arith, MatchOption, MatchResult}
 use Rattle.std.specs.List.{count_by}
+use Rattle.std.proofs.lemmas.List.{take_more}
 use Rattle.std.proofs.lemmas.List.Recursion.{is_sum_by}
 use Rattle.rows.specs.Bags.{once, many, Same, Gains}
 use Rattle.rows.specs.Searches.{found, without}
+
+once_le : (b : Bool) → once b ≤ 1
+once_le true = omega arith
+once_le false = omega arith
 
 module _ {X : Type 0} (p : X → Bool) where
   pub many-append : (xs ys : List X) → many p (xs ++ ys) ≡ many p xs + many p ys
   many-append [] ys = omega arith
   many-append (x ∷ xs) ys = omega (arith, many-append xs ys)
+
+  pub many_le : (xs : List X) → many p xs ≤ length xs
+  many_le [] = omega arith
+  many_le (x ∷ xs) = omega (arith, many_le xs, once_le (p x))
+
+  -- x stands at place i, and passes or does not
+  pub many_more : (xs : List X) (i : ℕ) (x : X) (b : Bool) → i < length xs → x ≡ get_or xs i x → p x ≡ b → many p (take (i + 1) xs) ≡ many p (take i xs) + once b
+  many_more xs i x b h read e =
+      let step : many p (take (i + 1) xs) ≡ many p (take i xs ++ (get_or xs i x ∷ [])) = ap (many p) (take_more xs i x h) in
+      let parts : many p (take i xs ++ (get_or xs i x ∷ [])) ≡ many p (take i xs) + (once (p (get_or xs i x)) + 0) = many-append (take i xs) (get_or xs i x ∷ []) in
+      let same : once (p (get_or xs i x)) ≡ once b = ap (λ y. once (p y)) (sym read) ∙ ap once e in
+      omega (arith, step, parts, same)
 
   pub many_counts : (xs : List X) → many p xs ≡ count_by p xs
   many_counts = is_sum_by (many p) (λ x. once (p x)) refl (λ x xs. refl)
@@ -66,6 +83,10 @@ module _ {X : Type 0} where
   -- equal counts mean equal sizes
   pub same_length : (xs ys : List X) → Same xs ys → length ys ≡ length xs
   same_length xs ys s = sym (many-all ys) ∙ s (λ _. true) ∙ many-all xs
+
+  -- one element more
+  pub gains_length : (x : X) (xs ys : List X) → Gains x xs ys → length ys ≡ length xs + 1
+  gains_length x xs ys s = omega (arith, s (λ _. true), many-all xs, many-all ys)
 
   found_some_step : (p : X → Bool) (x : X) (xs : List X) (b : Bool) → (0 < many p xs → (y : X) × (found p xs ≡ Some y)) → 0 < once b + many p xs → (y : X) × (cond b (Some x) (found p xs) ≡ Some y)
   found_some_step p x xs true more h = (x, refl)

@@ -7,7 +7,7 @@ use Rattle.tuples.specs.Matching.{matches}
 use Rattle.tuples.proofs.Padding.{same_tuple-decides}
 use Rattle.rows.specs.Bags.{once, many, Same, Gains}
 use Rattle.rows.proofs.Counting.{many_implied, same-from-copies}
-use Rattle.spaces.specs.declared.space.PutRefusal.TheVariants.{Full}
+use Rattle.spaces.specs.declared.space.PutRefusal.TheVariants.{NoSuchSite, Full}
 use Rattle.spaces.specs.Spaces.{Located, Bounded, at, hits, is, copies}
 use Rattle.spaces.specs.Answers.{put_answer}
 
@@ -40,3 +40,6 @@ put_taken size limit site low free = sym (rw (lt-ltb site 32 low, lt-ltb size li
 
 pub put_full : (size limit site : ℕ) → site < 32 → limit ≤ size → Err Full ≡ put_answer size limit site
 put_full size limit site low full = sym (rw (lt-ltb site 32 low, le-ltb size limit full))
+
+pub put_nowhere : (size limit site : ℕ) → 32 ≤ site → Err NoSuchSite ≡ put_answer size limit site
+put_nowhere size limit site high = sym (rw (le-ltb site 32 high))

@@ -5,7 +5,7 @@ ghost use Rattle.rows.specs.Bags.{many};
 ghost use Rattle.rows.specs.Searches.{found, without, visited};
 ghost use Rattle.chained.specs.Links.{rows_of, numbered, total, TuplesKept, TupleStored, BeyondKept, Kept};
 ghost use Rattle.chained.specs.Steps.{matches_at};
-ghost use Rattle.chained.specs.Chains.{memory, first_free, chain_in, rows_in, SameMemory};
+ghost use Rattle.chained.specs.Chains.{memory, first_free, bag, chain_in, rows_in, SameMemory};
 
 use crate::chain::Chain;
 use crate::chains::Chains;
@@ -21,10 +21,12 @@ use tuples::tuple::Tuple;
 // A site and a template apart, as the calls of a space give them: `Wanted` would hold a copy of the template.
 impl<'a> Chains<'a> {
     /// Links the rows of the caller's memory, whatever they hold, into the chain of free rows.
-    pub(crate) fn over(rows: &'a mut [ChainRow]) -> Chains<'a>
-        ensures empty { (c : ℕ) → c < 32 → chain_in result c ≡ [] }
+    pub fn over(rows: &'a mut [ChainRow]) -> Chains<'a>
+        ensures empty { bag result ≡ [] }
+        ensures chains { (c : ℕ) → c < 32 → chain_in result c ≡ [] }
         ensures room { rows_in result ≡ min (length rows.old) 4096 }
-        ensures kept { Kept rows.old (memory result) }
+        ensures tuples { TuplesKept rows.old (memory result) }
+        ensures beyond { BeyondKept rows.old (memory result) }
         ensures lent { result.rows.ghost_name ≡ rows.entry.ghost_name }
     {
         let ends = freed(rows);

@@ -22,22 +22,22 @@ module _ (rows : List ChainRow) (e : Ends) (at : ℕ) (chain : SoundChain rows e
 pub bounds-rows-prev : goal.bounds-rows-prev
 bounds-rows-prev c =
     let rows = c.args.rows.now in
-    omega (arith, prev_is rows c.args.ends c.args.at c.requires.chain c.requires.here c.index-rows-at-2.result, prev_inside rows c.args.ends c.args.at c.requires.chain c.requires.here c.if-at-ends.false)
+    omega (arith, prev_is rows c.args.ends c.args.at c.requires.chain c.requires.here c.index-rows-at-2.result, prev_inside rows c.args.ends c.args.at c.requires.chain.both c.requires.here c.requires.chain.inside c.if-at-ends.false)
 
 pub bounds-rows-prev-else-at-ends : goal.bounds-rows-prev-else-at-ends
 bounds-rows-prev-else-at-ends c =
     let rows = c.args.rows.now in
-    omega (arith, prev_is rows c.args.ends c.args.at c.requires.chain c.requires.here c.index-rows-at-2.result, prev_inside rows c.args.ends c.args.at c.requires.chain c.requires.here c.if-at-ends.false)
+    omega (arith, prev_is rows c.args.ends c.args.at c.requires.chain c.requires.here c.index-rows-at-2.result, prev_inside rows c.args.ends c.args.at c.requires.chain.both c.requires.here c.requires.chain.inside c.if-at-ends.false)
 
 pub bounds-rows-next : goal.bounds-rows-next
 bounds-rows-next c =
     let rows = c.args.rows.now in
-    omega (arith, next-is rows c.args.ends c.args.at c.requires.chain c.requires.here c.index-rows-at.result, next_inside rows c.args.ends c.args.at c.requires.chain c.requires.here c.if-at-ends-2.false)
+    omega (arith, next-is rows c.args.ends c.args.at c.requires.chain c.requires.here c.index-rows-at.result, next_inside rows c.args.ends c.args.at c.requires.chain.both c.requires.here c.requires.chain.inside c.if-at-ends-2.false)
 
 pub bounds-rows-next-else-at-ends-2 : goal.bounds-rows-next-else-at-ends-2
 bounds-rows-next-else-at-ends-2 c =
     let rows = c.args.rows.now in
-    omega (arith, next-is rows c.args.ends c.args.at c.requires.chain c.requires.here c.index-rows-at.result, next_inside rows c.args.ends c.args.at c.requires.chain c.requires.here c.if-at-ends-2.false)
+    omega (arith, next-is rows c.args.ends c.args.at c.requires.chain c.requires.here c.index-rows-at.result, next_inside rows c.args.ends c.args.at c.requires.chain.both c.requires.here c.requires.chain.inside c.if-at-ends-2.false)
 
 pub returns : goal.returns
 returns c =
@@ -47,7 +47,7 @@ returns c =
     let prev_read = prev_is rows e c.args.at c.requires.chain c.requires.here c.index-rows-at-2.result in
     let on : Relinked next_in prev_in (eqb c.args.at e.first) (prev_of rows c.args.at) (next_of rows c.args.at) rows c.if-at-ends.rows = elim c.if-at-ends.branch [
       | then-at-ends w ↦ unlinked (eq-eqb c.args.at e.first w.if-at-ends.true) w.rows-is
-      | else-at-ends w ↦ relinked (ne_eqb c.args.at e.first w.if-at-ends.false) _ _ w.index-rows-prev.result prev_read (omega (arith, prev_read, prev_inside rows e c.args.at c.requires.chain c.requires.here w.if-at-ends.false)) w.rows-is next-read refl refl
+      | else-at-ends w ↦ relinked (ne_eqb c.args.at e.first w.if-at-ends.false) _ _ w.index-rows-prev.result prev_read (omega (arith, prev_read, prev_inside rows e c.args.at c.requires.chain.both c.requires.here c.requires.chain.inside w.if-at-ends.false)) w.rows-is next-read refl refl
     ] in
     let is-first : c.if-at-ends.first ≡ cond (eqb c.args.at e.first) (next_of rows c.args.at) e.first = elim c.if-at-ends.branch [
       | then-at-ends w ↦ w.first-is ∙ next-read ∙ sym (cond-true (eqb c.args.at e.first) _ _ (eq-eqb c.args.at e.first w.if-at-ends.true))
@@ -55,11 +55,11 @@ returns c =
     ] in
     let back : Relinked prev_in next_in (eqb c.args.at e.last) (next_of rows c.args.at) (prev_of rows c.args.at) c.if-at-ends.rows c.if-at-ends-2.rows = elim c.if-at-ends-2.branch [
       | then-at-ends-2 w ↦ unlinked (eq-eqb c.args.at e.last w.if-at-ends-2.true) w.rows-is
-      | else-at-ends-2 w ↦ relinked (ne_eqb c.args.at e.last w.if-at-ends-2.false) _ _ w.index-rows-next.result next-read (omega (arith, next-read, next_inside rows e c.args.at c.requires.chain c.requires.here w.if-at-ends-2.false)) w.rows-is prev_read refl refl
+      | else-at-ends-2 w ↦ relinked (ne_eqb c.args.at e.last w.if-at-ends-2.false) _ _ w.index-rows-next.result next-read (omega (arith, next-read, next_inside rows e c.args.at c.requires.chain.both c.requires.here c.requires.chain.inside w.if-at-ends-2.false)) w.rows-is prev_read refl refl
     ] in
     let is_last : c.if-at-ends-2.last ≡ cond (eqb c.args.at e.last) (prev_of rows c.args.at) e.last = elim c.if-at-ends-2.branch [
       | then-at-ends-2 w ↦ w.last-is ∙ prev_read ∙ sym (cond-true (eqb c.args.at e.last) _ _ (eq-eqb c.args.at e.last w.if-at-ends-2.true))
       | else-at-ends-2 w ↦ w.last-is ∙ sym (cond-false (eqb c.args.at e.last) _ _ (ne_eqb c.args.at e.last w.if-at-ends-2.false))
     ] in
-    let out = taken_out rows e c.args.at c.requires.chain c.requires.here c.if-at-ends.rows c.if-at-ends-2.rows c.if-at-ends.first c.if-at-ends-2.last is-first is_last on back in
-    record { gone = out.gone; both = out.both; fewer = out.fewer; rest = out.rest; kept = out.kept }
+    let out = taken_out rows e c.args.at c.requires.chain.both c.requires.here c.requires.chain.single c.if-at-ends.rows c.if-at-ends-2.rows c.if-at-ends.first c.if-at-ends-2.last is-first is_last on back in
+    record { gone = out.gone; both = out.two_way; fewer = out.fewer; rest = out.rest; kept = out.kept }

@@ -3,4 +3,4 @@ use Rattle.chained.proofs.Spacing.{bag_none}
 use Rattle.chained.proofs.space.ChainedSpace.over.Goals as goal
 
 pub returns-clause-empty : goal.returns-clause-empty
-returns-clause-empty c = bag_none (chain_in c.over.result) c.over.ensures.empty
+returns-clause-empty c = bag_none (chain_in c.over.result) c.over.ensures.chains

@@ -1,8 +1,6 @@
-use Rattle.std.proofs.Common.{◌≡◌, true, false, [], sym, rules}
-use Rattle.std.proofs.lemmas.Bool.{cond-false}
+use Rattle.std.proofs.Common.{◌≡◌, true, false, sym, rules}
 use Rattle.lex.specs.Next.{is_end}
-use Rattle.syntax.specs.Machine.{unexpected}
-use Rattle.grammar.proofs.Walk.{ends, refuses}
+use Rattle.grammar.proofs.Walk.{ends, no_more}
 use Rattle.grammar.proofs.unread.Unread.end.Goals as goal
 
 pub returns-then-eq : goal.returns-then-eq
@@ -13,4 +11,4 @@ returns-then-eq c =
 pub returns-else-eq : goal.returns-else-eq
 returns-else-eq c =
     let is : is_end c.in_ok-token.token.kind ≡ false = search rules in
-    sym (refuses c.in_ok-token.ensures [] unexpected (cond-false _ _ _ is))
+    sym (no_more c.in_ok-token.ensures is)

@@ -11,13 +11,13 @@ pub returns-in_err-at-clause-got : goal.returns-in_err-at-clause-got
 returns-in_err-at-clause-got g c =
     let hit : g.row.R.Denot → Bool = λ x. g.R.Row.hit x c.args.question.now in
     let place : None ≡ place_from 0 hit (listed c.args.self.now) = sym c.in_err-at.was ∙ c.seek.ensures in
-    c.from_residual.ensures ∙ sym (missed hit (listed c.args.self.now) (sym place)).none
+    c.from_residual.ensures ∙ sym (missed hit 0 (listed c.args.self.now) (sym place)).none
 
 pub returns-in_err-at-clause-after : goal.returns-in_err-at-clause-after
 returns-in_err-at-clause-after g c =
     let hit : g.row.R.Denot → Bool = λ x. g.R.Row.hit x c.args.question.now in
     let place : None ≡ place_from 0 hit (listed c.args.self.now) = sym c.in_err-at.was ∙ c.seek.ensures in
-    sym (missed hit (listed c.args.self.now) (sym place)).kept
+    sym (missed hit 0 (listed c.args.self.now) (sym place)).kept
 
 pub raise-row-requires : goal.raise-row-requires
 raise-row-requires g c =
