@@ -47,9 +47,12 @@ impl<'t> Rest<'t> {
     fn first_token(self) -> Option<Token<'t>>
         ensures { Cuts self.entry.bytes.now (tok_at self.entry.start self.entry.bytes.now) result }
     {
-        match self.bytes[0] {
-            b'A'..=b'Z' | b'a'..=b'z' => self.run(),
-            b'0'..=b'9' => self.number(false),
+        // Letters and digits by guards, so that they are asked for first: with ranges in their place
+        // the compiled code asks for the quote, `$` and `-` before them.
+        let first = self.bytes[0];
+        match first {
+            b if b.is_ascii_alphabetic() => self.run(),
+            b if b.is_ascii_digit() => self.number(false),
             b'-' => self.number(true),
             b'$' => self.variable(),
             b'"' => self.word(),
@@ -106,8 +109,12 @@ impl<'t> Rest<'t> {
             (variable_tok self.entry.start self.entry.bytes.now)
             result }
     {
+        // The first byte before the run: a run that begins with a digit may be long, and names nothing.
+        if !self.bytes.get(1).is_some_and(u8::is_ascii_alphabetic) {
+            return None;
+        }
         let name = leading(&self.bytes[1..], |b| b.is_ascii_alphanumeric());
-        if name.first().is_some_and(u8::is_ascii_alphabetic) && is_name(name) {
+        if is_name(name) {
             Some(self.token(Kind::Variable, name, 1 + name.len()))
         } else {
             None

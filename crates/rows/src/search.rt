@@ -17,7 +17,8 @@ pub fn first<R: Row>(rows: &[R], question: &R::Question) -> Option<usize>
 pub fn count<R: Row>(rows: &[R], question: &R::Question) -> usize
     ensures { result ≡ many (λ x. R.hit x question.now) rows.now }
 {
-    rows.iter().filter(|row| row.answers(question)).count()
+    rows.iter()
+        .fold(0, |n, row| if row.answers(question) { n + 1 } else { n })
 }
 
 /// How many rows the search looks at: those up to the first that answers, or all where none does.

@@ -43,7 +43,8 @@ impl<'a, R: Row, const MOST: usize> Tray<'a, R, MOST> {
     fn in_use(&self) -> &[R]
         ensures { result.now ≡ listed self.now }
     {
-        &self.rows[..self.used]
+        // Never more than `MOST`: the bound says so to the compiler, which then looks at several rows at a time.
+        &self.rows[..self.used.min(MOST)]
     }
 }
 
@@ -107,7 +108,7 @@ impl<'a, R: Row, const MOST: usize> Store for Tray<'a, R, MOST> {
     {
         let at = search::first(self.in_use(), question)?;
         let row = self.rows[at];
-        self.rows.copy_within(at + 1..self.used, at);
+        self.rows[at..self.used].copy_within(1.., 0);
         self.used -= 1;
         Some(row)
     }

@@ -1,7 +1,8 @@
-use Rattle.std.proofs.Common.{◌≡◌, min, Bool, Some, None, refl, sym, ap, ◌∙◌, arith}
+use Rattle.std.proofs.Common.{◌≡◌, ◌-◌, ◌≤◌, length, min, Bool, Some, None, refl, sym, ap, ◌∙◌, arith}
+use borrow.Rule.Slice.PartMut.{put_mid, same_len_mid}
 use Rattle.rows.specs.Searches.{place_from}
 use Rattle.rows.specs.Trays.{listed}
-use Rattle.rows.proofs.Closing.{taken, untaken}
+use Rattle.rows.proofs.Closing.{part_closed, taken_closed, untaken}
 use Rattle.rows.proofs.tray.methods.TrayStore.take.Goals as goal
 
 pub returns-in_err-at : goal.returns-in_err-at
@@ -17,5 +18,7 @@ returns g c =
     let t = c.args.self.now in
     let hit : g.row.R.Denot → Bool = λ x. g.R.Row.hit x c.args.question.now in
     let place : Some c.in_ok-at.at ≡ place_from 0 hit (listed t) = sym c.in_ok-at.was ∙ c.first.ensures.place ∙ ap (place_from 0 hit) c.in_use.ensures in
-    let out = taken hit t.used t.rows.now c.in_ok-at.at c.index-self-at.result c.copy_within.new.self (omega (arith, t.fits)) place c.index-self-at.is c.copy_within.ensures.after in
-    record { got = ap Some (sym c.index-self-at.is) ∙ out.got; after = out.after; memory = out.memory; lent = refl; fixed = ap (λ n. min n g.row.MOST) c.copy_within.ensures.len }
+    let within : t.used ≤ length t.rows.now = omega (arith, t.fits) in
+    let rows = put_mid c.in_ok-at.at (t.used - c.in_ok-at.at) t.rows.now c.copy_within.new.self in
+    let out = taken_closed hit t.used t.rows.now c.in_ok-at.at c.index-self-at.result rows within place c.index-self-at.is (λ here. part_closed t.rows.now c.in_ok-at.at t.used here c.copy_within.new.self within c.copy_within.ensures.after) in
+    record { got = ap Some (sym c.index-self-at.is) ∙ out.got; after = out.after; memory = out.memory; lent = refl; fixed = ap (λ n. min n g.row.MOST) (same_len_mid c.in_ok-at.at (t.used - c.in_ok-at.at) t.rows.now c.copy_within.new.self c.copy_within.ensures.len) }
