@@ -103,6 +103,7 @@ impl<'a> Space for ChainedSpace<'a> {
         ensures lent { (chains_of self.new).rows.ghost_name ≡ (chains_of self.old).rows.ghost_name }
     {
         let site = Site::new(site).ok_or(PutRefusal::NoSuchSite)?;
+        // No `?` and `From`: the refusal is named here, as the contract names it.
         self.chains.put(site, tuple).or(Err(PutRefusal::Full))
     }
 

@@ -25,8 +25,8 @@ impl<'t> Unread<'t> {
     }
 
     // Actions, each with a dot behind it, and then `nil`, a call or a bracket.
-    #[cycle(process)]
     // The hint: one call less for each item. `process` and `bracket` stay calls.
+    #[cycle(process)]
     #[inline(always)]
     fn item(self, depth: usize) -> Reading<'t>
         ensures { ReadsIn depth (item ∷ []) self.entry result }

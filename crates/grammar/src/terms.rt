@@ -45,8 +45,8 @@ pub(crate) fn begins(kind: Kind, entries: Entries) -> bool
 }
 
 impl<'t> Unread<'t> {
-    /// Takes the next token, and gives what is unread behind it.
     // The hint: else the pair is written to memory and read back at each token.
+    /// Takes the next token, and gives what is unread behind it.
     #[inline(always)]
     pub(crate) fn token(self) -> Result<(Token<'t>, Unread<'t>), (Refusal, usize)>
         ensures { Takes self.entry result }
@@ -59,8 +59,8 @@ impl<'t> Unread<'t> {
         Ok((token, rest))
     }
 
-    /// What is unread behind the next token, where it is of this kind.
     // The hint: else what is unread is copied through memory at each step of the loops.
+    /// What is unread behind the next token, where it is of this kind.
     #[inline(always)]
     pub(crate) fn accept(self, kind: Kind) -> Result<Option<Unread<'t>>, (Refusal, usize)>
         ensures { Accepts kind self.entry result }

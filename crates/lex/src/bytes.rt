@@ -61,8 +61,8 @@ pub(crate) fn reserved(w: &[u8]) -> Option<Keyword>
     }
 }
 
-/// The kind of a run of letters and digits; none where it is too long for a name.
 // The hint: else its answer is written to memory and read back for each run.
+/// The kind of a run of letters and digits; none where it is too long for a name.
 #[inline(always)]
 pub(crate) fn run_kind(w: &[u8]) -> Option<Kind>
     ensures { result ≡ run_kind w.now }

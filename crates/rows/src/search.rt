@@ -12,6 +12,7 @@ pub fn first<R: Row>(rows: &[R], question: &R::Question) -> Option<usize>
     rows.iter().position(|row| row.answers(question))
 }
 
+// No `filter` with `count`: over short rows it takes twice the instructions.
 /// How many rows answer.
 #[tactic(auto, using(crate::proofs::Counting::many_counts))]
 pub fn count<R: Row>(rows: &[R], question: &R::Question) -> usize
